@@ -1,0 +1,2 @@
+pub use Rattle.fx_whole.specs.Nearest as Nearest
+pub mod Radii

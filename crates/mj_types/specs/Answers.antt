@@ -1,0 +1,22 @@
+-- The number of a status, and the name of a model's code.
+use Rattle.std.specs.Prelude.{ℕ, List, codes}
+use Rattle.mj_types.specs.declared.status.ModelCode.{ModelCode}
+use Rattle.mj_types.specs.declared.status.ModelCode.TheVariants as code
+use Rattle.mj_types.specs.declared.status.Status.{Status}
+use Rattle.mj_types.specs.declared.status.Status.TheVariants as status
+
+abbrev pub model_code_name : ModelCode → List ℕ
+model_code_name code.TooLarge = codes "TooLarge"
+model_code_name code.NotToml = codes "NotToml"
+model_code_name code.NotBuilt = codes "NotBuilt"
+model_code_name code.Memory = codes "Memory"
+
+-- the number that the program ends with
+abbrev pub code_of : Status → ℕ
+code_of status.Done = 0
+code_of (status.BadWords at) = 2
+code_of (status.OutOfRange step kind index) = 3
+code_of (status.BadModel fault) = 4
+code_of status.ReadFault = 6
+code_of status.WriteFault = 7
+code_of status.Memory = 8

@@ -1,0 +1,13 @@
+// The model of a body that slides.
+use fx_num::Fix;
+
+/// One body on one slide joint along the world's z axis.
+#[derive(Clone, Copy, Debug, PartialEq, Eq)]
+pub struct SlideModel {
+    /// The time step, in seconds.
+    pub h: Fix<32>,
+    /// The third component of gravity, in metres per second squared.
+    pub gravity: Fix<32>,
+    /// The body's mass, in whole kilograms.
+    pub mass: u32,
+}
