@@ -16,10 +16,13 @@ pub enum Over {
 /// is the radius of a sum of that width that is rounded by `shift` bits and loses `lost`.
 pub trait Carry {
     type Rad: Copy;
+
     type Wide: Copy;
 
     ghost width: { Self.Rad → ℕ };
+
     ghost wide_width: { Self.Wide → ℕ };
+
     ghost settled: { ℕ → ℕ → ℕ → ℕ };
 
     /// The radius of an exact number.
@@ -56,10 +59,13 @@ pub struct Plain;
 
 impl Carry for Plain {
     type Rad = ();
+
     type Wide = ();
 
     ghost width = { λ _. 0 };
+
     ghost wide_width = { λ _. 0 };
+
     ghost settled = { λ _ _ _. 0 };
 
     fn none() {}

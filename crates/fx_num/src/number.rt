@@ -37,7 +37,7 @@ pub struct Wide<const F: u32> {
 impl<const F: u32> Number<(), F> {
     /// The plain number whose stored whole number is `raw`: it stands for `raw / 2^F`.
     pub fn from_raw(raw: i64) -> Self
-        ensures { result.mid ≡ raw }
+        ensures { result ≡ record { mid = raw; rad = tt } }
     {
         Number { mid: raw, rad: () }
     }

@@ -1,3 +1,56 @@
+-- The lemmas of this crate, by file: cite each as Rattle.fx_whole.proofs.FILE.{NAME}. The definitions are in specs/.
+--
+-- NearestLaws, of `nearest` (specs/Nearest)
+--   nearest-is_nearest     has the property IsNearest, for d > 0
+--   nearest-unique         whatever has the property is it
+--   nearest-at, -none      the formula for d > 0; 0 for d <= 0
+--   nearest-size           |nearest n d| <= |n|, for every d
+--   nearest-size_product   2 |nearest n d| |d| < 2 |n| + |d|, for d > 0
+--   nearest-within         |n| <= limit |d|  gives  |nearest n d| <= limit, for every d
+--   nearest-within_twice   2 |n| <= (2 limit + 1) |d|  gives  |nearest n d| <= limit; -twice_within is the converse
+--   nearest-mono           n <= k  gives  nearest n d <= nearest k d
+--   nearest-neg            nearest (-n) d = -(nearest n d)
+--   nearest-multiple       nearest (m d) d = m, for d > 0;  nearest-one: nearest n 1 = n;  nearest-zero: nearest 0 d = 0
+--   nearest-scale          nearest (n k) (d k) = nearest n d, for k > 0;  nearest-scale_power: the same with powers of two
+--   with_sign-size         |with_sign n q| = q
+--
+-- Ring, of ℤ
+--   *ℤ_distrib_left, _right, *ℤ_assoc, _left_comm, _right_comm, *ℤ-neg_ℤ, neg_ℤ-*ℤ, *ℤ-pos_one, pos_one-*ℤ, *ℤ-pos_two, pos_two-*ℤ
+--   ring                   the set for `simp ring (omega (arith, ints))`, which proves identities of small degree
+--   square_of_sum, squares_apart, two_squares      identities so proved
+--   mul_nonneg, mul_pos, square_nonneg             products that are not negative
+--   mul_mono               a <= b  gives  a k <= b k, for k >= 0;  mul_mono_both: both factors grow, from 0 up
+--   mul_step               a < b  gives  a k + k <= b k, for k > 0
+--   nonneg_of_mul, le_of_mul, lt_of_mul, same_of_mul      a factor k > 0 taken away
+--   abs-neg, abs-add, abs-sub, abs_turned, abs_between, abs_mul_le, abs_square      sizes of results
+--   abs_nonneg, abs_zero, abs_mono, abs_bounds, abs_from_bounds                     sizes and bounds
+--
+-- RootLaws, of `isqrt` (specs/Roots)
+--   isqrt-root             has the property IsRoot, for n >= 0;  isqrt-unique: whatever has it is it
+--   isqrt-negative, -nonneg, -square, -mono, -below, -size
+--
+-- SumLaws, of `sum_to`, `sum_ℕ_to` and `when` (specs/Sums)
+--   sum_to-more            one more term, at n + 1
+--   sum_to-ext, -add, -sub, -neg, -scale_left, -scale_right, -zero, -none, -const, -swap, -split, -first, -past, -single
+--   sum_to-mono, -nonneg   order;  sum_to-size, -bounded: sizes, against a sum of naturals and against n m
+--   sum_ℕ_to-more, -ext, -add, -scale_left, -scale_right, -const, -mono, -bounded, -le, -term
+--   when-true, -false, -zero, -add, -sub, -neg, -mul_left, -mul_right, -and, -swap, -sum, -nonneg, -size
+--
+-- FirstLaws, of `or_first` and `first_to` (specs/First)
+--   or_pass, or_stop, or_none, or_assoc, or_both, or_which
+--   first_more             one more, at n + 1
+--   first_none             None, if and only if each is absent
+--   first_some             what is found is at the least place that has one
+--   first_stop, first_here, first_ext, first_split
+--
+-- LeastLaws, of `IsLeast` and `ceil_div` (specs/Least)
+--   least-unique, ceil_div-least, ceil_div-past
+--
+-- EntryLaws, of `at` and `flat_at` (specs/Entries)
+--   at-set_same, -set_other, -past, -take, -drop, -append_left, -append_right, -push, -zeros, -ext;  flat_at-set_same, -set_other
+--
+-- Powers, of 2
+--   pow-double, pow-split, pow-add_ℤ, pow_positive (std has pow-add, pow_pos, pow_below, pow_mono)
 pub mod EntryLaws
 pub mod FirstLaws
 pub mod LeastLaws

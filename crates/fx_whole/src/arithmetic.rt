@@ -1,6 +1,5 @@
 // Leaf arithmetic: one operation a function, each with the exact value and its size.
 ghost use Rattle.std.specs.Prelude.{◌≡◌, pos, ◌+◌, ◌*◌, ◌^◌, ◌<◌, ◌≤◌, ◌+ℤ◌, ◌-ℤ◌, ◌*ℤ◌, ◌≤ℤ◌, ◌↔◌, neg_ℤ, IsTrue, unsigned_abs};
-ghost use Rattle.fx_whole.specs.Roots.{isqrt as isqrt_lem, IsRoot};
 
 /// `a * b`, which always fits.
 pub fn product(a: i64, b: i64) -> i128
@@ -20,7 +19,7 @@ pub fn wide_product(a: i128, b: i128) -> i128
     a * b
 }
 
-/// `a + b`, where the caller shows that it fits.
+/// The sum, where the caller shows that it fits.
 pub fn sum(a: i128, b: i128) -> i128
     requires { unsigned_abs a + unsigned_abs b < 2 ^ 127 }
     ensures value { result ≡ a +ℤ b }
@@ -29,7 +28,7 @@ pub fn sum(a: i128, b: i128) -> i128
     a + b
 }
 
-/// `a - b`, where the caller shows that it fits.
+/// The difference, where the caller shows that it fits.
 pub fn difference(a: i128, b: i128) -> i128
     requires { unsigned_abs a + unsigned_abs b < 2 ^ 127 }
     ensures value { result ≡ a -ℤ b }
@@ -38,7 +37,16 @@ pub fn difference(a: i128, b: i128) -> i128
     a - b
 }
 
-/// `-n`, for every i128 but the least.
+/// `total + a * b`, where the caller shows that it fits: one step of a sum of products.
+pub fn add_product(total: i128, a: i64, b: i64) -> i128
+    requires { unsigned_abs total + unsigned_abs a * unsigned_abs b < 2 ^ 127 }
+    ensures value { result ≡ total +ℤ a *ℤ b }
+    ensures size { unsigned_abs result ≤ unsigned_abs total + unsigned_abs a * unsigned_abs b }
+{
+    sum(total, product(a, b))
+}
+
+/// The negative, of every i128 but the least.
 pub fn negated(n: i128) -> i128
     requires { unsigned_abs n < 2 ^ 127 }
     ensures value { result ≡ neg_ℤ n }
@@ -97,13 +105,4 @@ pub fn wide_scaled(n: i128, shift: u32) -> i128
     ensures size { unsigned_abs result ≡ unsigned_abs n * 2 ^ shift }
 {
     wide_product(n, power(shift))
-}
-
-/// The greatest whole number whose square is at most `n`.
-pub fn isqrt(n: i128) -> i128
-    requires { pos 0 ≤ℤ n }
-    ensures value { result ≡ isqrt_lem n }
-    ensures root { IsRoot n result }
-{
-    n.isqrt()
 }

@@ -2,10 +2,14 @@
 #![tactic(auto)]
 
 pub mod arithmetic;
+pub mod roots;
 pub mod rounding;
+#[cfg(test)]
+mod tests;
 
 pub use arithmetic::{
-    difference, is_within, isqrt, narrow, negated, power, product, scaled, size, sum, wide_product,
-    wide_scaled,
+    add_product, difference, is_within, narrow, negated, power, product, scaled, size, sum,
+    wide_product, wide_scaled,
 };
+pub use roots::isqrt;
 pub use rounding::{nearest, nearest_shift};

@@ -18,7 +18,7 @@ fn nearest_size(n: u128, d: u128) -> u128
     ensures value { result ≡ (2 * n + (d - 1)) / (2 * d) }
 {
     let quotient = n / d;
-    let rest = n % d;
+    let rest = n - quotient * d;
     if rest > d - rest {
         quotient + 1
     } else {

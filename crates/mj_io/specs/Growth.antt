@@ -1,6 +1,10 @@
 -- How what a sink holds grows, and what a cabinet gives. Bytes that are not told are `None`.
 use Rattle.std.specs.Prelude.{◌≡◌, ℕ, List, ◌++◌, take, Option, Some, None}
 
+-- bytes that no contract knows
+abbrev pub untold : Option (List ℕ)
+untold = None
+
 -- where the new bytes are told, the old ones were, and they grew by these
 abbrev pub Grew : Option (List ℕ) → List ℕ → Option (List ℕ) → Type 0
 Grew old bytes None = Unit {0}

@@ -1,2 +1,6 @@
 pub mod Faults
 pub mod Growth
+pub mod Sent
+pub mod Tray
+pub mod Shelf
+pub mod Roomy

@@ -17,7 +17,9 @@ pub enum CabinetFault {
 /// one count for all names.
 pub trait Cabinet {
     ghost tells: { Self → Bool };
+
     ghost holds: { Self → List ℕ → Option (List ℕ) };
+
     ghost faults: { Self → List ℕ → ℕ };
 
     /// The first `cap` bytes held under `name`, or all where there are fewer. `Failed` comes only

@@ -11,6 +11,7 @@ pub struct Failed;
 /// the writes that failed.
 pub trait Sink {
     ghost holds: { Self → Option (List ℕ) };
+
     ghost faults: { Self → ℕ };
 
     /// Writes some of the first bytes of `piece`, at least one, and says how many. A failed write has

@@ -1,0 +1,10 @@
+pub mod Document
+pub mod Ends
+pub mod Model
+pub mod Outcome
+pub mod Refusal
+pub mod Run
+pub mod Step
+pub mod Timestep
+pub mod Trace
+pub mod Words

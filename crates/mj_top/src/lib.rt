@@ -1,13 +1,15 @@
-// A library with one function.
+//! The top call.
 #![tactic(auto)]
 
-ghost use Rattle.std.specs.Prelude.{◌≡◌};
-ghost use Rattle.mj_top.specs.Echo.{echo_of};
+mod model;
+mod refusal;
+mod run;
+mod step;
+pub mod top;
+mod trace;
+mod words;
 
-// The `ensures` clause is the contract: what `echo` returns is `echo_of` of its argument, a definition
-// in `specs/Echo.antt`, which a caller's clause can cite too.
-pub fn echo(x: usize) -> usize
-    ensures { result ≡ echo_of x }
-{
-    x
-}
+pub use top::run_words;
+
+#[cfg(test)]
+mod tests;

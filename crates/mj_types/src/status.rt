@@ -72,7 +72,9 @@ pub enum Status {
     /// The whole text was written, and no number left its range.
     Done,
     /// The words are refused, first at this one.
-    BadWords { at: usize },
+    BadWords {
+        at: usize,
+    },
     /// The whole text was written; the run ended early, at this step's first number out of range.
     OutOfRange {
         step: usize,

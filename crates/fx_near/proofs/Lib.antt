@@ -1,0 +1,4 @@
+pub mod CoverLaws
+pub mod QuotientLaws
+pub mod RootCovers
+pub mod RadiusLaws

@@ -1,0 +1,110 @@
+// The kind of number that carries a radius.
+ghost use Rattle.std.specs.Prelude.{◌≡◌, ◌+◌, ◌-◌, ◌*◌, ◌^◌, ◌<◌, ◌≤◌, min, unsigned_abs, IfOk, IfErr};
+ghost use Rattle.fx_whole.specs.Least.{ceil_div};
+ghost use Rattle.fx_num.specs.Radii.{radius_limit};
+ghost use Rattle.fx_near.specs.Covers.{Covers};
+ghost use Rattle.fx_near.specs.Widths.{settled_radius};
+
+use fx_num::{Carry, Fix, Num, Number, Over};
+
+// The greatest radius that a number may have.
+const RADIUS_LIMIT: u128 = 1 << 40;
+
+/// The kind of number that carries a radius, in units of its scale: the exact number lies within that
+/// of the middle.
+#[derive(Clone, Copy, Debug, PartialEq, Eq)]
+pub struct Band;
+
+/// A number at scale `F` that covers each exact number within `rad / 2^F` of `mid / 2^F`.
+pub type Near<const F: u32> = Num<Band, F>;
+
+impl Carry for Band {
+    type Rad = u64;
+
+    type Wide = u128;
+
+    ghost width = { λ r. r };
+
+    ghost wide_width = { λ w. w };
+
+    ghost settled = { settled_radius };
+
+    fn none() -> u64 {
+        0
+    }
+
+    fn wide_none() -> u128 {
+        0
+    }
+
+    fn product(a: i64, ra: u64, b: i128, rb: u64) -> u128 {
+        stretched(a, rb) + spread(b.unsigned_abs(), ra) + spread(u128::from(ra), rb)
+    }
+
+    fn join(a: u128, b: u128) -> u128 {
+        a + b
+    }
+
+    fn cut(w: u128, lost: i128, shift: u32) -> Result<u64, Over> {
+        within_limit(shifted_up(w, lost.unsigned_abs(), shift))
+    }
+}
+
+// `size * radius`, where the caller shows that it fits.
+fn spread(size: u128, radius: u64) -> u128
+    requires { size * radius < 2 ^ 128 }
+    ensures { result ≡ size * radius }
+{
+    size * u128::from(radius)
+}
+
+/// `|mid| * radius`, which always fits.
+pub(crate) fn stretched(mid: i64, radius: u64) -> u128
+    ensures value { result ≡ unsigned_abs mid * radius }
+    ensures bound { result < 2 ^ 127 }
+{
+    u128::from(mid.unsigned_abs()) * u128::from(radius)
+}
+
+/// `radius * 2^shift`, which always fits.
+pub(crate) fn raised(radius: u64, shift: u32) -> u128
+    requires { shift ≤ 40 }
+    ensures value { result ≡ radius * 2 ^ shift }
+    ensures bound { result < 2 ^ 104 }
+{
+    u128::from(radius) << shift
+}
+
+// `(a + b) / 2^shift` rounded up, or the greatest u128 where it is past that. The sum of `a` and `b`
+// may not fit, so their high and low parts are added.
+fn shifted_up(a: u128, b: u128, shift: u32) -> u128
+    requires { shift ≤ 126 }
+    ensures { result ≡ min (ceil_div (a + b) (2 ^ shift)) (2 ^ 128 - 1) }
+{
+    let mask = (1u128 << shift) - 1;
+    let low = ((a & mask) + (b & mask) + mask) >> shift;
+    (a >> shift).saturating_add(b >> shift).saturating_add(low)
+}
+
+/// `radius` in 64 bits, or `Over::Radius` exactly where it passes 2^40.
+pub(crate) fn within_limit(radius: u128) -> Result<u64, Over>
+    ensures rad { IfOk result (λ r. r ≡ radius) }
+    ensures small { IfOk result (λ r. r ≤ radius_limit) }
+    ensures refusal { IfErr result (λ e. e ≡ Over.Radius) }
+    ensures past { IfErr result (λ _. radius_limit < radius) }
+{
+    if radius <= RADIUS_LIMIT {
+        Ok(radius as u64)
+    } else {
+        Err(Over::Radius)
+    }
+}
+
+/// The number `x`, known exactly: radius 0.
+pub fn exact<const F: u32>(x: Fix<F>) -> Near<F>
+    ensures mid { result.mid ≡ x.entry.mid }
+    ensures rad { result.rad ≡ 0 }
+    ensures covers { Covers result.mid result.rad F x.entry.mid (2 ^ F) }
+{
+    Number { mid: x.mid, rad: 0 }
+}

@@ -1,0 +1,49 @@
+// Rounding of an exact sum to a lower scale.
+ghost use Rattle.std.specs.Prelude.{◌≡◌, ◌+◌, ◌-◌, ◌*◌, ◌^◌, ◌<◌, ◌≤◌, pos, ◌-ℤ◌, ◌*ℤ◌, ◌≤ℤ◌, unsigned_abs, IfOk, IfErr};
+ghost use Rattle.fx_whole.specs.Nearest.{IsNearest, nearest as nearest_lem};
+ghost use Rattle.fx_num.specs.Radii.{radius_limit};
+ghost use Rattle.fx_num.specs.Settled.{settled_mid, rounding_loss, Passes};
+
+use crate::carry::{Carry, Over};
+use crate::number::{Num, Number, Sum};
+use fx_whole::{is_within, narrow, nearest_shift};
+
+/// `|n - value 2^shift|` for the `value` nearest to `n / 2^shift`. The product may need one bit more
+/// than an i128 has, so the sizes are subtracted.
+fn lost(n: i128, value: i128, shift: u32) -> i128
+    requires in_width { shift ≤ 126 }
+    requires rounded { value ≡ nearest_lem n (pos (2 ^ shift)) }
+    ensures { result ≡ pos (unsigned_abs (n -ℤ value *ℤ pos (2 ^ shift))) }
+{
+    let whole = value.unsigned_abs() << shift;
+    whole.abs_diff(n.unsigned_abs()).cast_signed()
+}
+
+/// The sum at scale `P` rounded to scale `F`, a tie to the number nearer to zero, with the radius that
+/// covers the sum's width and the rounding. `Over::Value` exactly where the value passes `limit` in
+/// size, else `Over::Radius` exactly where the radius passes 2^40.
+pub fn settle<K: Carry, const P: u32, const F: u32>(
+    acc: Sum<K, P>,
+    limit: i64,
+) -> Result<Num<K, F>, Over>
+    requires below { F ≤ P }
+    requires in_width { P ≤ F + 126 }
+    requires limit { pos 0 ≤ℤ limit }
+    ensures mid { IfOk result (λ r. r.mid ≡ settled_mid acc.mid (P - F)) }
+    ensures within { IfOk result (λ r. unsigned_abs r.mid ≤ unsigned_abs limit) }
+    ensures rad { IfOk result (λ r. K.width r.rad ≡ K.settled (K.wide_width acc.rad) (rounding_loss acc.mid (P - F)) (P - F)) }
+    ensures small { IfOk result (λ r. K.width r.rad ≤ radius_limit) }
+    ensures refusal { IfErr result (λ e. Passes e (unsigned_abs limit) (settled_mid acc.mid (P - F)) (K.settled (K.wide_width acc.rad) (rounding_loss acc.mid (P - F)) (P - F))) }
+{
+    let shift = P - F;
+    let value = nearest_shift(acc.mid, shift);
+    if is_within(value, limit) {
+        let mid = narrow(value);
+        match K::cut(acc.rad, lost(acc.mid, value, shift), shift) {
+            Ok(rad) => Ok(Number { mid, rad }),
+            Err(over) => Err(over),
+        }
+    } else {
+        Err(Over::Value)
+    }
+}

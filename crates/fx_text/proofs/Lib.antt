@@ -1,0 +1,4 @@
+pub mod Exponent
+pub mod Faults
+pub mod Sizes
+pub mod Stops

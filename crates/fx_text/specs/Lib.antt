@@ -1,0 +1,3 @@
+pub mod Decimal
+pub mod Fronts
+pub mod Numeral

@@ -1,0 +1,13 @@
+//! Numbers as text: decimal numerals are read at a binary scale, and whole numbers are printed.
+#![tactic(auto)]
+
+pub mod decimal;
+pub mod laws;
+mod numeral;
+pub mod print;
+
+pub use decimal::{DecimalFault, read_decimal};
+pub use print::print_raw;
+
+#[cfg(test)]
+mod tests;

@@ -1,0 +1,8 @@
+pub use Rattle.fx_num.specs.Radii as Radii
+pub mod Vectors
+pub mod Spatial
+pub mod Sizes
+pub mod Widths
+pub mod Views
+pub mod Adding
+pub mod Inertias

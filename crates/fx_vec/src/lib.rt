@@ -1,0 +1,19 @@
+//! Vectors in space and spatial algebra in fixed point: each product of vectors is added exactly to
+//! sums that the caller rounds once.
+#![tactic(auto)]
+
+pub mod cross;
+pub mod dot;
+pub mod inertia;
+mod leaf;
+pub mod spatial;
+pub mod vector;
+
+pub use cross::cross_into;
+pub use dot::{dot_into, pair_into};
+pub use inertia::{Inertia10, add10, inertia_into};
+pub use spatial::{force_cross_into, motion_cross_into};
+pub use vector::{M3, Q4, Sp6, Sum3, Sum6, Total3, Total6, V3, Vector3, Vector6};
+
+#[cfg(test)]
+mod tests;

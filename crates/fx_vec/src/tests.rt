@@ -1,0 +1,200 @@
+use super::*;
+use fx_num::{Fix, Number, Plain, Total};
+
+// Macros and not functions, so that a call's condition is computed from the numbers.
+macro_rules! vector {
+    ($x:expr, $y:expr, $z:expr) => {
+        Vector3 {
+            x: Number { mid: $x, rad: () },
+            y: Number { mid: $y, rad: () },
+            z: Number { mid: $z, rad: () },
+        }
+    };
+}
+
+macro_rules! motion {
+    () => {
+        Vector6 {
+            ang: vector!(1, 2, 3),
+            lin: vector!(4, 5, 6),
+        }
+    };
+}
+
+macro_rules! force {
+    () => {
+        Vector6 {
+            ang: vector!(7, 8, 9),
+            lin: vector!(10, 11, 12),
+        }
+    };
+}
+
+macro_rules! totals {
+    ($x:expr, $y:expr, $z:expr) => {
+        Total3 {
+            x: Total { mid: $x, rad: () },
+            y: Total { mid: $y, rad: () },
+            z: Total { mid: $z, rad: () },
+        }
+    };
+}
+
+macro_rules! first_ten {
+    () => {
+        Inertia10 {
+            xx: 1,
+            xy: 2,
+            xz: 3,
+            yy: 4,
+            yz: 5,
+            zz: 6,
+            mx: 7,
+            my: 8,
+            mz: 9,
+            mass: 10,
+        }
+    };
+}
+
+fn is_shared<T: Send + Sync>(_value: &T) -> bool {
+    true
+}
+
+#[test]
+fn dot_is_added(rt: HostRuntime) {
+    let mut out = Total { mid: 100, rad: () };
+    dot_into::<Plain, 2, 3, 5>(&vector!(1, 2, 3), &vector!(4, 5, 6), &mut out);
+    assert_eq!(rt; out.mid, 132);
+}
+
+#[test]
+fn cross_is_added(rt: HostRuntime) {
+    let mut out = totals!(100, 200, 300);
+    cross_into::<Plain, 2, 3, 5>(&vector!(1, 2, 3), &vector!(4, 5, 6), &mut out);
+    assert_eq!(rt; out, totals!(97, 206, 297));
+}
+
+#[test]
+fn pair_is_the_power(rt: HostRuntime) {
+    let mut out = Total { mid: 0, rad: () };
+    pair_into::<Plain, 2, 3, 5>(&motion!(), &force!(), &mut out);
+    // 7 + 16 + 27 and 40 + 55 + 72
+    assert_eq!(rt; out.mid, 217);
+}
+
+#[test]
+fn motion_cross_is_added(rt: HostRuntime) {
+    let mut out = Total6 {
+        ang: totals!(0, 0, 0),
+        lin: totals!(1, 1, 1),
+    };
+    motion_cross_into::<Plain, 2, 3, 5>(&motion!(), &force!(), &mut out);
+    assert_eq!(rt; out.ang, totals!(-6, 12, -6));
+    // (-3, 6, -3) and (-9, 18, -9)
+    assert_eq!(rt; out.lin, totals!(-11, 25, -11));
+}
+
+#[test]
+fn force_cross_is_added(rt: HostRuntime) {
+    let mut out = Total6 {
+        ang: totals!(1, 1, 1),
+        lin: totals!(0, 0, 0),
+    };
+    force_cross_into::<Plain, 2, 3, 5>(&motion!(), &force!(), &mut out);
+    // (-6, 12, -6) twice
+    assert_eq!(rt; out.ang, totals!(-11, 25, -11));
+    assert_eq!(rt; out.lin, totals!(-9, 18, -9));
+}
+
+// The rates of a motion and of a force leave their power as it is: (v x s) . f + s . (v x* f) = 0.
+// Here f is (1, 0, 0; 0, 1, 0), and the two powers are 18 and -18.
+#[test]
+fn rates_keep_the_power(rt: HostRuntime) {
+    let mut out = Total6 {
+        ang: totals!(0, 0, 0),
+        lin: totals!(0, 0, 0),
+    };
+    let f = Vector6 {
+        ang: vector!(1, 0, 0),
+        lin: vector!(0, 1, 0),
+    };
+    force_cross_into::<Plain, 2, 3, 5>(&motion!(), &f, &mut out);
+    assert_eq!(rt; out.ang, totals!(-6, 3, 2));
+    assert_eq!(rt; out.lin, totals!(-3, 0, 1));
+    let rate = Vector6 {
+        ang: vector!(-6, 3, 2),
+        lin: vector!(-3, 0, 1),
+    };
+    let s = Vector6 {
+        ang: vector!(7, 8, 9),
+        lin: vector!(10, 11, 12),
+    };
+    let mut power = Total { mid: 18, rad: () };
+    pair_into::<Plain, 2, 3, 5>(&s, &rate, &mut power);
+    assert_eq!(rt; power.mid, 0);
+}
+
+#[test]
+fn inertia_gives_the_momentum(rt: HostRuntime) {
+    let mut out = Total6 {
+        ang: totals!(0, 0, 0),
+        lin: totals!(0, 0, 0),
+    };
+    inertia_into::<Plain, 2, 42>(&first_ten!(), &motion!(), &mut out);
+    // (14, 25, 31) and (3, -6, 3)
+    assert_eq!(rt; out.ang, totals!(17, 19, 34));
+    // (40, 50, 60) less (6, -12, 6)
+    assert_eq!(rt; out.lin, totals!(34, 62, 54));
+}
+
+#[test]
+fn inertias_add_up(rt: HostRuntime) {
+    let both = add10(&first_ten!(), &first_ten!());
+    assert_eq!(rt;
+        both,
+        Inertia10 {
+            xx: 2,
+            xy: 4,
+            xz: 6,
+            yy: 8,
+            yz: 10,
+            zz: 12,
+            mx: 14,
+            my: 16,
+            mz: 18,
+            mass: 20,
+        }
+    );
+}
+
+#[test]
+fn can_be_sent_and_shared(rt: HostRuntime) {
+    let number = Fix::<32>::from_raw(1);
+    let row: V3<Plain, 32> = vector!(1, 0, 0);
+    let moving: Sp6<Plain, 2> = motion!();
+    let sums: Sum3<Plain, 5> = totals!(0, 0, 0);
+    assert!(rt;
+        is_shared(&M3 {
+            a: row,
+            b: row,
+            c: row
+        })
+    );
+    assert!(rt;
+        is_shared(&Q4 {
+            w: number,
+            x: number,
+            y: number,
+            z: number
+        })
+    );
+    assert!(rt; is_shared(&moving));
+    assert!(rt; is_shared(&first_ten!()));
+    assert!(rt;
+        is_shared(&Total6 {
+            ang: sums,
+            lin: sums
+        })
+    );
+}

@@ -1,0 +1,17 @@
+// Counts that stand still at their greatest value.
+ghost use Rattle.std.specs.Prelude.{◌≡◌, cond};
+ghost use Rattle.mj_io.specs.Faults.{raised};
+
+// One more, or the greatest value.
+pub(crate) fn one_more(count: u64) -> u64
+    ensures { result ≡ raised count }
+{
+    count.saturating_add(1)
+}
+
+// A count after a call, which was a fault or wasn't.
+pub(crate) fn after_call(count: u64, failed: bool) -> u64
+    ensures { result ≡ cond failed (raised count) count }
+{
+    if failed { one_more(count) } else { count }
+}

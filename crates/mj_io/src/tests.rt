@@ -1,0 +1,194 @@
+// What no clause says: examples, that calls can succeed, and how many writes a text takes.
+use super::*;
+use std::alloc::Global;
+use std::io::Print;
+use std::process::Abort;
+use std::test::Fail;
+use std::{fs, io};
+
+fn is_shared<T: Send + Sync>() {}
+
+#[test]
+fn each_type_can_be_sent_and_shared() {
+    is_shared::<MemCabinet>();
+    is_shared::<SureCabinet>();
+    is_shared::<MemSink>();
+    is_shared::<RoomSink>();
+    is_shared::<Page>();
+    is_shared::<FileCabinet<'static, HostRuntime>>();
+    is_shared::<OutSink<'static, HostRuntime>>();
+}
+
+#[test]
+fn a_put_that_fails_has_written_a_front(rt: HostRuntime) -> Result<(), Fail> {
+    let fails = Vec::from_slice(rt.alloc(), &[3])?;
+    let mut sink = MemSink::new(rt.alloc(), 8, fails, 1)?;
+    assert_eq!(rt; put(&mut sink, b"abcd"), Err(Failed));
+    assert_eq!(rt; sink.held(), b"ab".as_slice());
+    assert_eq!(rt; sink.faults(), 1);
+    assert_eq!(rt; put(&mut sink, b"cd"), Ok(()));
+    assert_eq!(rt; sink.held(), b"abcd".as_slice());
+    Ok(())
+}
+
+#[test]
+fn a_full_sink_fails(rt: HostRuntime) -> Result<(), Fail> {
+    let mut sink = MemSink::new(rt.alloc(), 3, Vec::new(rt.alloc()), 10)?;
+    assert_eq!(rt; put(&mut sink, b"abcde"), Err(Failed));
+    assert_eq!(rt; sink.held(), b"abc".as_slice());
+    assert_eq!(rt; sink.faults(), 1);
+    Ok(())
+}
+
+fn three_files(alloc: Global) -> Result<Vec<(String, Vec<u8>)>, Fail> {
+    let mut files = Vec::new(alloc);
+    for (name, bytes) in [("a", b"one".as_slice()), ("b", b"two"), ("a", b"three")] {
+        files.push((
+            String::from_str(alloc, name)?,
+            Vec::from_slice(alloc, bytes)?,
+        ))?;
+    }
+    Ok(files)
+}
+
+#[test]
+fn a_cabinet_holds_the_first_of_a_name(rt: HostRuntime) -> Result<(), Fail> {
+    let fails = Vec::from_slice(rt.alloc(), &[2])?;
+    let mut cabinet = MemCabinet::new(three_files(rt.alloc())?, fails);
+    assert_eq!(rt;
+        cabinet.read(rt.alloc(), "a", 10)?.as_slice(),
+        b"one".as_slice()
+    );
+    assert_eq!(rt;
+        cabinet.read(rt.alloc(), "a", 10).err(),
+        Some(CabinetFault::Failed)
+    );
+    assert_eq!(rt;
+        cabinet.read(rt.alloc(), "c", 10).err(),
+        Some(CabinetFault::Failed)
+    );
+    assert_eq!(rt;
+        cabinet.read(rt.alloc(), "b", 2)?.as_slice(),
+        b"tw".as_slice()
+    );
+    Ok(())
+}
+
+#[test]
+fn a_sure_cabinet_never_fails(rt: HostRuntime) -> Result<(), Fail> {
+    let mut cabinet = SureCabinet::new(three_files(rt.alloc())?);
+    assert_eq!(rt;
+        cabinet.read(rt.alloc(), "a", 10)?.as_slice(),
+        b"one".as_slice()
+    );
+    assert_eq!(rt; cabinet.read(rt.alloc(), "c", 10)?.len(), 0);
+    Ok(())
+}
+
+#[test]
+fn a_sink_with_too_little_room_tells_nothing(rt: HostRuntime) -> Result<(), Fail> {
+    let mut sink = RoomSink::new(rt.alloc(), 5)?;
+    assert_eq!(rt; put(&mut sink, b"abc"), Ok(()));
+    assert_eq!(rt; sink.held().ok_or("dropped")?, b"abc".as_slice());
+    assert_eq!(rt; put(&mut sink, b"def"), Ok(()));
+    assert!(rt; sink.held().is_none());
+    assert_eq!(rt; put(&mut sink, b"d"), Ok(()));
+    assert!(rt; sink.held().is_none());
+    Ok(())
+}
+
+#[test]
+fn a_file_is_read_to_the_cap(rt: HostRuntime) -> Result<(), Fail> {
+    let name = "mj_io_read_to_the_cap.txt";
+    let bytes = vec![in rt.alloc(); b'x'; 70_000]?;
+    fs::write(&rt, name, bytes.as_slice())?;
+    let mut cabinet = FileCabinet::new(&rt);
+    assert_eq!(rt;
+        cabinet.read(rt.alloc(), name, 80_000)?.as_slice(),
+        bytes.as_slice()
+    );
+    assert_eq!(rt; cabinet.read(rt.alloc(), name, 66_000)?.len(), 66_000);
+    assert_eq!(rt; cabinet.read(rt.alloc(), name, 0)?.len(), 0);
+    fs::remove_file(&rt, name)?;
+    assert_eq!(rt;
+        cabinet.read(rt.alloc(), name, 10).err(),
+        Some(CabinetFault::Failed)
+    );
+    Ok(())
+}
+
+// An output that fails.
+struct Broken;
+
+impl Print for Broken {
+    fn print<D: std::fmt::Display + Drop>(&self, _value: D) -> io::Result<()> {
+        Err(io::Error::from(io::ErrorKind::BrokenPipe))
+    }
+
+    fn println<D: std::fmt::Display + Drop>(&self, _value: D) -> io::Result<()> {
+        Err(io::Error::from(io::ErrorKind::BrokenPipe))
+    }
+
+    fn write_all(&self, _bytes: &[u8]) -> io::Result<()> {
+        Err(io::Error::from(io::ErrorKind::BrokenPipe))
+    }
+}
+
+#[test]
+fn an_output_fails_where_the_system_does(rt: HostRuntime) {
+    assert_eq!(rt; put(&mut OutSink::new(&Broken), b"lost"), Err(Failed));
+    assert_eq!(rt; put(&mut OutSink::new(&rt), b"out\n"), Ok(()));
+}
+
+// The second write fails, so that a text that took one write is told from one that took more.
+#[test]
+fn a_short_text_takes_one_write(rt: HostRuntime) -> Result<(), Fail> {
+    let fails = Vec::from_slice(rt.alloc(), &[2])?;
+    let mut sink = MemSink::new(rt.alloc(), 100, fails, 100)?;
+    let mut page = Page::new();
+    send(&mut sink, &mut page, b"n = ");
+    send_signed(&mut sink, &mut page, &-12);
+    send(&mut sink, &mut page, b"\n");
+    assert_eq!(rt; sink.held().len(), 0);
+    assert_eq!(rt; finish(&mut sink, &mut page), Ok(()));
+    flush(&mut sink, &mut page);
+    assert_eq!(rt; sink.held(), b"n = -12\n".as_slice());
+    assert_eq!(rt; put(&mut sink, b"x"), Err(Failed));
+    Ok(())
+}
+
+#[test]
+fn numbers_are_written_in_decimal(rt: HostRuntime) -> Result<(), Fail> {
+    let mut sink = RoomSink::new(rt.alloc(), 100)?;
+    let mut page = Page::new();
+    send_wide(&mut sink, &mut page, &i128::MIN);
+    send_signed(&mut sink, &mut page, &i64::MIN);
+    send_unsigned(&mut sink, &mut page, u64::MAX);
+    send_size(&mut sink, &mut page, 0);
+    assert_eq!(rt; finish(&mut sink, &mut page), Ok(()));
+    let want = b"-170141183460469231731687303715884105728-9223372036854775808184467440737095516150";
+    assert_eq!(rt; sink.held().ok_or("dropped")?, want.as_slice());
+    Ok(())
+}
+
+fn send_long(sink: &mut MemSink, piece: &[u8]) -> bool {
+    let mut page = Page::new();
+    send(sink, &mut page, b"abc");
+    send(sink, &mut page, piece);
+    send(sink, &mut page, b"z");
+    finish(sink, &mut page).is_ok()
+}
+
+#[test]
+fn a_long_piece_goes_out_whole_or_in_front(rt: HostRuntime) -> Result<(), Fail> {
+    let piece = vec![in rt.alloc(); b'y'; 10_000]?;
+    for (fail, is_whole, length, faults) in [(0, true, 10_004, 0), (5, false, 3_003, 1)] {
+        let fails = Vec::from_slice(rt.alloc(), &[fail])?;
+        let mut sink = MemSink::new(rt.alloc(), 20_000, fails, 1_000)?;
+        let all = send_long(&mut sink, piece.as_slice());
+        assert_eq!(rt; all, is_whole);
+        assert_eq!(rt; sink.held().len(), length);
+        assert_eq!(rt; sink.faults(), faults);
+    }
+    Ok(())
+}

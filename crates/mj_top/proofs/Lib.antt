@@ -1,0 +1,5 @@
+pub mod Arrays
+pub mod Endings
+pub mod Firsts
+pub mod Judged
+pub mod Steps

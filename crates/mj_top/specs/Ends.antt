@@ -1,0 +1,62 @@
+-- How a command ends, against its outcome, and the cause of each answer.
+use Rattle.std.specs.Prelude.{◌≡◌, ◌⊎◌, ℕ, List, Option, Some, None, Result, Ok, Err}
+use Rattle.mj_io.specs.Faults.{Rose}
+use Rattle.mj_io.specs.Growth.{Grew, GrewPart}
+use Rattle.mj_types.specs.declared.status.Status.{Status}
+use Rattle.mj_types.specs.declared.status.Status.TheVariants as status
+use Rattle.mj_top.specs.Words.{bad_place, model_of}
+use Rattle.mj_top.specs.Outcome.{Outcome}
+
+-- the status is the outcome's, and its whole text was written
+pub record EndsWhole (outcome : Outcome) (old : Option (List ℕ)) (answer : Status) (new : Option (List ℕ)) : Type 0 where
+  pub same : answer ≡ outcome.status
+  pub grew : Grew old outcome.text new
+
+-- against an outcome that is known: the whole of it, or a front of its text after a fault of the sink; another fault leaves the sink as it was
+abbrev pub EndsAs : Outcome → Status → Option (List ℕ) → Option (List ℕ) → Type 0
+EndsAs outcome status.ReadFault old new = new ≡ old
+EndsAs outcome status.Memory old new = new ≡ old
+EndsAs outcome status.WriteFault old new = GrewPart old outcome.text new
+EndsAs outcome answer old new = EndsWhole outcome old answer new
+
+-- against the outcome of words and files: where there is none, a file was read in vain, or memory was wanted
+abbrev pub Answers : Option Outcome → Status → Option (List ℕ) → Option (List ℕ) → Type 0
+Answers o status.ReadFault old new = new ≡ old
+Answers o status.Memory old new = new ≡ old
+Answers o answer old new = (outcome : Outcome) × (o ≡ Some outcome) × EndsAs outcome answer old new
+
+-- after a fault in reading and after want of memory nothing was written
+abbrev pub WritesNothing : Status → Option (List ℕ) → Option (List ℕ) → Type 0
+WritesNothing status.ReadFault old new = new ≡ old
+WritesNothing status.Memory old new = new ≡ old
+WritesNothing answer old new = Unit {0}
+
+-- the cause of each answer: the place that is bad; accepted words for all that comes after judging them; and for a fault a count that rose, the cabinet's under the name that the words give
+abbrev pub HasCause : List (List ℕ) → Status → (List ℕ → ℕ) → (List ℕ → ℕ) → ℕ → ℕ → Type 0
+HasCause words (status.BadWords at) reads reads' writes writes' = bad_place words ≡ Some at
+HasCause words status.ReadFault reads reads' writes writes' = (bad_place words ≡ None) × Rose (reads (model_of words)) (reads' (model_of words))
+HasCause words status.WriteFault reads reads' writes writes' = Rose writes writes'
+HasCause words answer reads reads' writes writes' = bad_place words ≡ None
+
+-- where no count rose, the answer is the outcome's, or memory was wanted
+abbrev pub Completes : List (List ℕ) → Outcome → Status → (List ℕ → ℕ) → (List ℕ → ℕ) → ℕ → ℕ → Type 0
+Completes words outcome answer reads reads' writes writes' =
+    ¬ Rose (reads (model_of words)) (reads' (model_of words)) → ¬ Rose writes writes' → (answer ≡ status.Memory) ⊎ (answer ≡ outcome.status)
+
+-- ---- within the command, where no file is read any more
+
+-- an outcome was written to the sink `old`, whole, or a front of it after a fault of the sink
+abbrev pub Ends : {K : Type 0} → (K → Option (List ℕ)) → (K → ℕ) → Outcome → K → Status → K → Type 0
+Ends holds faults outcome old status.ReadFault new = ⊥
+Ends holds faults outcome old status.Memory new = ⊥
+Ends holds faults outcome old status.WriteFault new = GrewPart (holds old) outcome.text (holds new) × Rose (faults old) (faults new)
+Ends holds faults outcome old answer new = EndsWhole outcome (holds old) answer (holds new)
+
+-- the same, or memory was wanted and the sink is as it was
+abbrev pub EndsOrMemory : {K : Type 0} → (K → Option (List ℕ)) → (K → ℕ) → Outcome → K → Status → K → Type 0
+EndsOrMemory holds faults outcome old answer new = ((answer ≡ status.Memory) × (new ≡ old)) ⊎ Ends holds faults outcome old answer new
+
+-- the status, unless the writing failed
+abbrev pub unless_failed : {T E : Type 0} → Result T E → Status → Status
+unless_failed (Ok done) answer = answer
+unless_failed (Err failed) answer = status.WriteFault

@@ -1,0 +1,80 @@
+// A run: the steps one after another, each told as it is done.
+ghost use Rattle.std.specs.Prelude.{◌≡◌, ◌+◌, ◌-◌, ◌<◌, ◌^◌, false, MatchResult};
+ghost use Rattle.mj_io.specs.Sent.{Sent};
+ghost use Rattle.mj_top.specs.Run.{run, end_of};
+ghost use Rattle.mj_top.specs.Trace.{blocks_text, trace_text};
+
+use crate::step::{State, start, step};
+use crate::trace::{Block, send_block, send_end, send_header};
+use mj_io::{Failed, Page, Sink};
+use mj_types::{End, OutOfRange, SlideModel};
+
+// The end of a run whose step after `done` others is refused.
+fn early_end(done: u32, out: OutOfRange) -> End
+    ensures { result ≡ End.OutOfRange (done + 1) out.kind out.index }
+{
+    End::OutOfRange {
+        step: done as usize + 1,
+        kind: out.kind,
+        index: out.index,
+    }
+}
+
+// What is told of the step after `done` others.
+fn block_of(done: u32, after: &State, model: &SlideModel) -> Block
+    requires { done < 2 ^ 32 - 1 }
+    ensures { result ≡ record { step = done + 1; after = after.now; accel = model.now.gravity } }
+{
+    Block {
+        step: done + 1,
+        after: *after,
+        accel: model.gravity,
+    }
+}
+
+// The steps of a run and their blocks, to the end or to the first refusal. `Failed` where the writing
+// stopped.
+fn send_steps<S: Sink>(
+    sink: &mut S,
+    page: &mut Page,
+    model: &SlideModel,
+    steps: u32,
+) -> Result<End, Failed>
+    ensures sent { Sent S.holds S.faults sink.old page.old (blocks_text (run model.now steps).blocks) sink.new page.new }
+    ensures end { MatchResult result (λ end. end ≡ end_of model.now steps) (λ _. page.new.going ≡ false) }
+{
+    let mut state = start();
+    for done in 0..steps {
+        match step(model, &state) {
+            Ok(after) => state = after,
+            Err(out) => return Ok(early_end(done, out)),
+        }
+        send_block(sink, page, &block_of(done, &state, model));
+        if !page.is_going() {
+            return Err(Failed);
+        }
+    }
+    Ok(End::Done)
+}
+
+/// Runs the model for this many steps and sends the trace: the header, a block for each step that is
+/// done, and the end, which is the answer. `Failed` where the writing stopped; what was sent is a
+/// front of the trace.
+pub fn send_run<S: Sink>(
+    sink: &mut S,
+    page: &mut Page,
+    model: &SlideModel,
+    steps: u32,
+) -> Result<End, Failed>
+    ensures sent { Sent S.holds S.faults sink.old page.old (trace_text steps (run model.now steps)) sink.new page.new }
+    ensures end { MatchResult result (λ end. end ≡ end_of model.now steps) (λ _. page.new.going ≡ false) }
+{
+    send_header(sink, page, steps);
+    match send_steps(sink, page, model, steps) {
+        Ok(end) => {
+            send_end(sink, page, &end);
+            Ok(end)
+        }
+        Err(Failed) => Err(Failed),
+    }
+}
