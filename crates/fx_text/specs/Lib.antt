@@ -1,3 +1,4 @@
 pub mod Decimal
 pub mod Fronts
 pub mod Numeral
+pub mod Parts

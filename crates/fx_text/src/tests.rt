@@ -10,6 +10,13 @@ fn a_fault_can_be_sent_and_shared() {
     is_shared::<DecimalFault>();
 }
 
+#[test]
+fn laws_can_be_cited() {
+    laws::refused_bytes_stop();
+    laws::numerals_are_read();
+    laws::numerals_have_parts();
+}
+
 fn raw_at_32(text: &[u8]) -> Result<i64, DecimalFault> {
     match read_decimal::<32>(text) {
         Ok(number) => Ok(number.mid),

@@ -1,7 +1,19 @@
 -- The sizes of products of vectors: the formula with each term replaced by its absolute value. A rule of this project's own.
-use Rattle.std.specs.Prelude.{ℕ, ◌+◌, ◌*◌, ℤ, unsigned_abs}
+use Rattle.std.specs.Prelude.{ℕ, ◌+◌, ◌*◌, ◌≤◌, ℤ, unsigned_abs}
 use Rattle.fx_vec.specs.Vectors.{Triple}
 use Rattle.fx_vec.specs.Spatial.{Spatial, Inertia}
+
+-- each coordinate is at most that in size
+pub record Within (a : Triple ℤ) (limit : ℕ) : Type 0 where
+  pub x : unsigned_abs a.x ≤ limit
+  pub y : unsigned_abs a.y ≤ limit
+  pub z : unsigned_abs a.z ≤ limit
+
+-- the same of sizes and of radii
+pub record Below (a : Triple ℕ) (limit : ℕ) : Type 0 where
+  pub x : a.x ≤ limit
+  pub y : a.y ≤ limit
+  pub z : a.z ≤ limit
 
 abbrev pub dot_size : Triple ℤ → Triple ℤ → ℕ
 dot_size a b = unsigned_abs a.x * unsigned_abs b.x + unsigned_abs a.y * unsigned_abs b.y + unsigned_abs a.z * unsigned_abs b.z

@@ -1,15 +1,21 @@
 -- Laws of how a command ends.
-use Rattle.std.proofs.Common.{◌≡◌, inl, inr, ℕ, false, List, Option, Some, None, Result, Ok, Err, refl, sym, ap, ◌∙◌, subst}
+use Rattle.std.proofs.Common.{◌≡◌, inl, inr, ℕ, Bool, List, Option, Some, None, Result, Ok, Err, option_map, refl, sym, ap, ◌∙◌, subst}
+use Rattle.mj_io.specs.Faults.{Rose}
 use Rattle.mj_io.specs.Growth.{Grew}
-use Rattle.mj_io.specs.Sent.{Sent, Wrote, fresh, Gathered}
-use Rattle.mj_io.proofs.Sent.{sent-part}
+use Rattle.mj_io.specs.Sent.{Wrote}
+use Rattle.mj_types.specs.declared.model.SlideModel.{SlideModel}
 use Rattle.mj_types.specs.declared.range.End.{End}
 use Rattle.mj_types.specs.declared.range.End.TheVariants as finish
+use Rattle.mj_types.specs.declared.status.ModelFault.{ModelFault}
 use Rattle.mj_types.specs.declared.status.Status.{Status}
 use Rattle.mj_types.specs.declared.status.Status.TheVariants as status
+use Rattle.mj_types.specs.declared.tape.TapeFault.{TapeFault}
+use Rattle.mj_tape.specs.Judging.{TapeValues}
+use Rattle.mj_top.specs.Controls.{control}
+use Rattle.mj_top.specs.Run.{run}
 use Rattle.mj_top.specs.Words.{bad_place}
-use Rattle.mj_top.specs.Outcome.{Outcome, words_refused, status_of}
-use Rattle.mj_top.specs.Ends.{Answers, WritesNothing, HasCause, Completes, Ends, EndsOrMemory, unless_failed}
+use Rattle.mj_top.specs.Outcome.{Outcome, words_refused, status_of, with_tape, with_tape_file, with_model, outcome}
+use Rattle.mj_top.specs.Ends.{Answers, WritesNothing, HasCause, Completes, ReadRose, TapeRose, HasTapeCause, Ends, EndsOrMemory, unless_failed}
 
 -- a status that tells of an outcome, and of no fault
 abbrev pub IsTold : Status → Type 0
@@ -18,22 +24,36 @@ IsTold status.WriteFault = ⊥
 IsTold status.Memory = ⊥
 IsTold answer = Unit {0}
 
+-- a status that comes once the words are accepted
+abbrev pub IsLater : Status → Type 0
+IsLater (status.BadWords at) = ⊥
+IsLater answer = Unit {0}
+
 pub told-status_of : (end : End) → IsTold (status_of end)
 told-status_of finish.Done = tt
 told-status_of (finish.OutOfRange step kind index) = tt
+
+pub later-status_of : (end : End) → IsLater (status_of end)
+later-status_of finish.Done = tt
+later-status_of (finish.OutOfRange step kind index) = tt
+
+pub later-with_tape : (n : ℕ) (model : SlideModel) (answer : Result TapeValues TapeFault) → IsLater (with_tape n model answer).status
+later-with_tape n model (Ok tape) = later-status_of (run model (control (Some tape)) n).finish
+later-with_tape n model (Err fault) = tt
 
 same_status : (o : Option Outcome) (x y : Outcome) (answer : Status) → o ≡ Some x → o ≡ Some y → answer ≡ y.status → answer ≡ x.status
 same_status o x y answer e d s = let same : y ≡ x = cc in s ∙ ap (λ z. z.status) same
 
 -- an answer with its cause is the outcome's where no count rose
-pub completes : (words : List (List ℕ)) (o : Option Outcome) (outcome : Outcome) (answer : Status) (old new : Option (List ℕ)) (reads reads' : List ℕ → ℕ) (writes writes' : ℕ) → o ≡ Some outcome → Answers o answer old new → HasCause words answer reads reads' writes writes' → Completes words outcome answer reads reads' writes writes'
-completes words o outcome status.Done old new reads reads' writes writes' e answers cause quiet silent = inr (same_status o outcome answers.0 status.Done e answers.1 answers.2.same)
-completes words o outcome (status.BadWords at) old new reads reads' writes writes' e answers cause quiet silent = inr (same_status o outcome answers.0 (status.BadWords at) e answers.1 answers.2.same)
-completes words o outcome (status.OutOfRange step kind index) old new reads reads' writes writes' e answers cause quiet silent = inr (same_status o outcome answers.0 (status.OutOfRange step kind index) e answers.1 answers.2.same)
-completes words o outcome (status.BadModel fault) old new reads reads' writes writes' e answers cause quiet silent = inr (same_status o outcome answers.0 (status.BadModel fault) e answers.1 answers.2.same)
-completes words o outcome status.ReadFault old new reads reads' writes writes' e answers cause quiet silent = absurd (quiet cause.1)
-completes words o outcome status.WriteFault old new reads reads' writes writes' e answers cause quiet silent = absurd (silent cause)
-completes words o outcome status.Memory old new reads reads' writes writes' e answers cause quiet silent = inl refl
+pub completes : (words : List (List ℕ)) (tells : Bool) (held : List ℕ → Option (List ℕ)) (o : Option Outcome) (outcome : Outcome) (answer : Status) (old new : Option (List ℕ)) (reads reads' : List ℕ → ℕ) (writes writes' : ℕ) → o ≡ Some outcome → Answers o answer old new → HasCause words tells held answer reads reads' writes writes' → Completes words tells held outcome answer reads reads' writes writes'
+completes words tells held o outcome status.Done old new reads reads' writes writes' e answers cause quiet silent = inr (same_status o outcome answers.0 status.Done e answers.1 answers.2.same)
+completes words tells held o outcome (status.BadWords at) old new reads reads' writes writes' e answers cause quiet silent = inr (same_status o outcome answers.0 (status.BadWords at) e answers.1 answers.2.same)
+completes words tells held o outcome (status.OutOfRange step kind index) old new reads reads' writes writes' e answers cause quiet silent = inr (same_status o outcome answers.0 (status.OutOfRange step kind index) e answers.1 answers.2.same)
+completes words tells held o outcome (status.BadModel fault) old new reads reads' writes writes' e answers cause quiet silent = inr (same_status o outcome answers.0 (status.BadModel fault) e answers.1 answers.2.same)
+completes words tells held o outcome (status.BadTape tape fault) old new reads reads' writes writes' e answers cause quiet silent = inr (same_status o outcome answers.0 (status.BadTape tape fault) e answers.1 answers.2.same)
+completes words tells held o outcome status.ReadFault old new reads reads' writes writes' e answers cause quiet silent = absurd (quiet cause.1)
+completes words tells held o outcome status.WriteFault old new reads reads' writes writes' e answers cause quiet silent = absurd (silent cause)
+completes words tells held o outcome status.Memory old new reads reads' writes writes' e answers cause quiet silent = inl refl
 
 module _ {K : Type 0} (holds : K → Option (List ℕ)) (faults : K → ℕ) (a b : K) where
   -- the whole text was written
@@ -42,6 +62,7 @@ module _ {K : Type 0} (holds : K → Option (List ℕ)) (faults : K → ℕ) (a 
   ends_whole outcome (status.BadWords at) told e grew = record { same = e; grew = grew }
   ends_whole outcome (status.OutOfRange step kind index) told e grew = record { same = e; grew = grew }
   ends_whole outcome (status.BadModel fault) told e grew = record { same = e; grew = grew }
+  ends_whole outcome (status.BadTape tape fault) told e grew = record { same = e; grew = grew }
   ends_whole outcome status.ReadFault told e grew = told
   ends_whole outcome status.WriteFault told e grew = absurd told
   ends_whole outcome status.Memory told e grew = told
@@ -55,20 +76,13 @@ module _ {K : Type 0} (holds : K → Option (List ℕ)) (faults : K → ℕ) (a 
       let P = λ (s : Status). Ends holds faults outcome a s b in
       subst P (sym e) (wrote.part, wrote.cause)
 
-  -- the writing stopped before the end
-  pub ends-from_stopped : (outcome : Outcome) (answer : Status) (from to : Gathered) → from ≡ fresh → Sent holds faults a from outcome.text b to → to.going ≡ false → answer ≡ status.WriteFault → Ends holds faults outcome a answer b
-  ends-from_stopped outcome answer from to begun sent off e =
-      let P = λ (s : Status). Ends holds faults outcome a s b in
-      let Q = λ (p : Gathered). Sent holds faults a p outcome.text b to in
-      let all = subst Q begun sent in
-      subst P (sym e) (sent-part all, all.cause refl off)
-
   -- what ends so answers the outcome
   pub answers-from_ends : (o : Option Outcome) (outcome : Outcome) (answer : Status) → o ≡ Some outcome → Ends holds faults outcome a answer b → Answers o answer (holds a) (holds b)
   answers-from_ends o outcome status.Done e ends = (outcome, e, ends)
   answers-from_ends o outcome (status.BadWords at) e ends = (outcome, e, ends)
   answers-from_ends o outcome (status.OutOfRange step kind index) e ends = (outcome, e, ends)
   answers-from_ends o outcome (status.BadModel fault) e ends = (outcome, e, ends)
+  answers-from_ends o outcome (status.BadTape tape fault) e ends = (outcome, e, ends)
   answers-from_ends o outcome status.ReadFault e ends = absurd ends
   answers-from_ends o outcome status.WriteFault e ends = (outcome, e, ends.0)
   answers-from_ends o outcome status.Memory e ends = absurd ends
@@ -85,26 +99,69 @@ module _ {K : Type 0} (holds : K → Option (List ℕ)) (faults : K → ℕ) (a 
   nothing-from_ends outcome (status.BadWords at) ends = tt
   nothing-from_ends outcome (status.OutOfRange step kind index) ends = tt
   nothing-from_ends outcome (status.BadModel fault) ends = tt
+  nothing-from_ends outcome (status.BadTape tape fault) ends = tt
   nothing-from_ends outcome status.ReadFault ends = absurd ends
   nothing-from_ends outcome status.WriteFault ends = tt
   nothing-from_ends outcome status.Memory ends = absurd ends
 
-  -- refused words have their cause
-  pub cause-from_refused : (words : List (List ℕ)) (at : ℕ) (answer : Status) (reads reads' : List ℕ → ℕ) → bad_place words ≡ Some at → Ends holds faults (words_refused at) a answer b → HasCause words answer reads reads' (faults a) (faults b)
-  cause-from_refused words at status.Done reads reads' bad ends = absurd (let e = ends.same in cc)
-  cause-from_refused words at (status.BadWords there) reads reads' bad ends = let e = ends.same in let same : there ≡ at = cc in bad ∙ ap Some (sym same)
-  cause-from_refused words at (status.OutOfRange step kind index) reads reads' bad ends = absurd (let e = ends.same in cc)
-  cause-from_refused words at (status.BadModel fault) reads reads' bad ends = absurd (let e = ends.same in cc)
-  cause-from_refused words at status.ReadFault reads reads' bad ends = absurd ends
-  cause-from_refused words at status.WriteFault reads reads' bad ends = ends.1
-  cause-from_refused words at status.Memory reads reads' bad ends = absurd ends
+  pub nothing-from_either : (outcome : Outcome) (answer : Status) → EndsOrMemory holds faults outcome a answer b → WritesNothing answer (holds a) (holds b)
+  nothing-from_either outcome answer (inl wanted) =
+      let P = λ (s : Status). WritesNothing s (holds a) (holds b) in
+      subst P (sym wanted.0) (ap holds wanted.1)
+  nothing-from_either outcome answer (inr ends) = nothing-from_ends outcome answer ends
 
-  -- what ends after accepted words has its cause
-  pub cause-from_accepted : (words : List (List ℕ)) (outcome : Outcome) (answer : Status) (reads reads' : List ℕ → ℕ) → ((at : ℕ) → outcome.status ≡ status.BadWords at → ⊥) → bad_place words ≡ None → Ends holds faults outcome a answer b → HasCause words answer reads reads' (faults a) (faults b)
-  cause-from_accepted words outcome status.Done reads reads' not_words good ends = good
-  cause-from_accepted words outcome (status.BadWords at) reads reads' not_words good ends = absurd (not_words at (sym ends.same))
-  cause-from_accepted words outcome (status.OutOfRange step kind index) reads reads' not_words good ends = good
-  cause-from_accepted words outcome (status.BadModel fault) reads reads' not_words good ends = good
-  cause-from_accepted words outcome status.ReadFault reads reads' not_words good ends = absurd ends
-  cause-from_accepted words outcome status.WriteFault reads reads' not_words good ends = ends.1
-  cause-from_accepted words outcome status.Memory reads reads' not_words good ends = absurd ends
+  -- refused words have their cause
+  pub cause-from_refused : (words : List (List ℕ)) (tells : Bool) (held : List ℕ → Option (List ℕ)) (at : ℕ) (answer : Status) (reads reads' : List ℕ → ℕ) → bad_place words ≡ Some at → Ends holds faults (words_refused at) a answer b → HasCause words tells held answer reads reads' (faults a) (faults b)
+  cause-from_refused words tells held at status.Done reads reads' bad ends = absurd (let e = ends.same in cc)
+  cause-from_refused words tells held at (status.BadWords there) reads reads' bad ends = let e = ends.same in let same : there ≡ at = cc in bad ∙ ap Some (sym same)
+  cause-from_refused words tells held at (status.OutOfRange step kind index) reads reads' bad ends = absurd (let e = ends.same in cc)
+  cause-from_refused words tells held at (status.BadModel fault) reads reads' bad ends = absurd (let e = ends.same in cc)
+  cause-from_refused words tells held at (status.BadTape tape fault) reads reads' bad ends = absurd (let e = ends.same in cc)
+  cause-from_refused words tells held at status.ReadFault reads reads' bad ends = absurd ends
+  cause-from_refused words tells held at status.WriteFault reads reads' bad ends = ends.1
+  cause-from_refused words tells held at status.Memory reads reads' bad ends = absurd ends
+
+  -- what ends after the words has its cause
+  pub tape_cause-from_ends : (tape : Option (List ℕ)) (outcome : Outcome) (answer : Status) (reads reads' : List ℕ → ℕ) → IsLater outcome.status → Ends holds faults outcome a answer b → HasTapeCause tape answer reads reads' (faults a) (faults b)
+  tape_cause-from_ends tape outcome status.Done reads reads' later ends = tt
+  tape_cause-from_ends tape outcome (status.BadWords at) reads reads' later ends = let P = λ (s : Status). IsLater s in subst P (sym ends.same) later
+  tape_cause-from_ends tape outcome (status.OutOfRange step kind index) reads reads' later ends = tt
+  tape_cause-from_ends tape outcome (status.BadModel fault) reads reads' later ends = tt
+  tape_cause-from_ends tape outcome (status.BadTape number fault) reads reads' later ends = tt
+  tape_cause-from_ends tape outcome status.ReadFault reads reads' later ends = absurd ends
+  tape_cause-from_ends tape outcome status.WriteFault reads reads' later ends = ends.1
+  tape_cause-from_ends tape outcome status.Memory reads reads' later ends = tt
+
+  pub tape_cause-from_either : (tape : Option (List ℕ)) (outcome : Outcome) (answer : Status) (reads reads' : List ℕ → ℕ) → IsLater outcome.status → EndsOrMemory holds faults outcome a answer b → HasTapeCause tape answer reads reads' (faults a) (faults b)
+  tape_cause-from_either tape outcome answer reads reads' later (inl wanted) =
+      let P = λ (s : Status). HasTapeCause tape s reads reads' (faults a) (faults b) in
+      subst P (sym wanted.0) tt
+  tape_cause-from_either tape outcome answer reads reads' later (inr ends) = tape_cause-from_ends tape outcome answer reads reads' later ends
+
+-- the cause that follows the model's, as the whole command's, from counts that stood lower before the model was read
+pub cause-from_tape : (words : List (List ℕ)) (tells : Bool) (held : List ℕ → Option (List ℕ)) (tape : Option (List ℕ)) (answer : Status) (reads reads' : List ℕ → ℕ) (writes writes' : ℕ) → bad_place words ≡ None → (TapeRose tape reads reads' → answer ≡ status.ReadFault → ReadRose words tells held reads reads') → HasTapeCause tape answer reads reads' writes writes' → HasCause words tells held answer reads reads' writes writes'
+cause-from_tape words tells held tape status.Done reads reads' writes writes' good rose cause = good
+cause-from_tape words tells held tape (status.BadWords at) reads reads' writes writes' good rose cause = absurd cause
+cause-from_tape words tells held tape (status.OutOfRange step kind index) reads reads' writes writes' good rose cause = good
+cause-from_tape words tells held tape (status.BadModel fault) reads reads' writes writes' good rose cause = good
+cause-from_tape words tells held tape (status.BadTape number fault) reads reads' writes writes' good rose cause = good
+cause-from_tape words tells held tape status.ReadFault reads reads' writes writes' good rose cause = (good, rose cause refl)
+cause-from_tape words tells held tape status.WriteFault reads reads' writes writes' good rose cause = cause
+cause-from_tape words tells held tape status.Memory reads reads' writes writes' good rose cause = good
+
+-- the counts may have stood lower before
+pub tape_cause-earlier : (tape : Option (List ℕ)) (answer : Status) (reads between reads' : List ℕ → ℕ) (writes writes' : ℕ) → ((n : List ℕ) → Rose (between n) (reads' n) → Rose (reads n) (reads' n)) → HasTapeCause tape answer between reads' writes writes' → HasTapeCause tape answer reads reads' writes writes'
+tape_cause-earlier tape status.Done reads between reads' writes writes' lower cause = tt
+tape_cause-earlier tape (status.BadWords at) reads between reads' writes writes' lower cause = cause
+tape_cause-earlier tape (status.OutOfRange step kind index) reads between reads' writes writes' lower cause = tt
+tape_cause-earlier tape (status.BadModel fault) reads between reads' writes writes' lower cause = tt
+tape_cause-earlier tape (status.BadTape number fault) reads between reads' writes writes' lower cause = tt
+tape_cause-earlier tape status.ReadFault reads between reads' writes writes' lower cause = (cause.0, cause.1, lower cause.0 cause.2)
+tape_cause-earlier tape status.WriteFault reads between reads' writes writes' lower cause = cause
+tape_cause-earlier tape status.Memory reads between reads' writes writes' lower cause = tt
+
+-- a model's outcome is the same for files that are held alike
+pub with_model-same : (held held' : List ℕ → Option (List ℕ)) (n : ℕ) (tape : Option (List ℕ)) (judged : Result SlideModel ModelFault) → ((name : List ℕ) → held' name ≡ held name) → with_model held' n tape judged ≡ with_model held n tape judged
+with_model-same held held' n None (Ok model) same = refl
+with_model-same held held' n (Some name) (Ok model) same = ap (option_map (with_tape_file n model)) (same name)
+with_model-same held held' n tape (Err fault) same = refl

@@ -2,4 +2,10 @@ pub mod Arrays
 pub mod Endings
 pub mod Firsts
 pub mod Judged
+pub mod Lawful
+pub mod MotorList
+pub mod Moves
+pub mod Options
+pub mod Parts
+pub mod Served
 pub mod Steps

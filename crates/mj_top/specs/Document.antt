@@ -1,6 +1,7 @@
 -- What the keys of a document's table hold, type by type: nothing, where a key is missing or holds another type.
-use Rattle.std.specs.Prelude.{ℕ, suc, ℤ, int_le, Bool, true, false, ◌&&◌, ◌||◌, ◌==◌, if◌then◌else◌, List, [], ◌∷◌, Option, Some, None, option_and_then, bytes_eq}
+use Rattle.std.specs.Prelude.{ℕ, suc, ℤ, pos, ◌*ℤ◌, ◌^◌, int_le, Bool, true, false, ◌&&◌, ◌||◌, ◌==◌, if◌then◌else◌, List, [], ◌∷◌, Option, Some, None, option_and_then, bytes_eq}
 use Rattle.toml.specs.Data.{Data, Items, no_items, item, Members, no_members, member, get_member, get_item, as_str, as_integer, as_array, as_table}
+use Rattle.fx_num.specs.declared.number.Number.{Number}
 
 infixl 10 ◌>>=◌
 abbrev pub ◌>>=◌ : {A B : Type 0} → Option A → (A → Option B) → Option B
@@ -30,6 +31,10 @@ only_table_at key table = items_at key table >>= only_table
 -- a number from least to most
 abbrev pub between : ℤ → ℤ → ℤ → Option ℤ
 between least most number = if int_le least number && int_le number most then Some number else None
+
+-- a whole number at scale 32
+abbrev pub at_scale : ℤ → Number (Unit {0}) 32
+at_scale number = record { mid = number *ℤ pos (2 ^ 32); rad = tt }
 
 -- a value that is a whole number from least to most
 abbrev pub integer_between : ℤ → ℤ → Data → Option ℤ

@@ -1,11 +1,14 @@
 -- How a command ends, against its outcome, and the cause of each answer.
-use Rattle.std.specs.Prelude.{◌≡◌, ◌⊎◌, ℕ, List, Option, Some, None, Result, Ok, Err}
+use Rattle.std.specs.Prelude.{◌≡◌, ◌⊎◌, ℕ, List, Option, Some, None, Result, Ok, Err, Bool, IsTrue, take}
 use Rattle.mj_io.specs.Faults.{Rose}
 use Rattle.mj_io.specs.Growth.{Grew, GrewPart}
 use Rattle.mj_types.specs.declared.status.Status.{Status}
 use Rattle.mj_types.specs.declared.status.Status.TheVariants as status
-use Rattle.mj_top.specs.Words.{bad_place, model_of}
-use Rattle.mj_top.specs.Outcome.{Outcome}
+use Rattle.mj_types.specs.declared.model.SlideModel.{SlideModel}
+use Rattle.mj_types.specs.declared.status.ModelFault.{ModelFault}
+use Rattle.mj_top.specs.Words.{bad_place, model_of, tape_of}
+use Rattle.mj_top.specs.Model.{model_judged}
+use Rattle.mj_top.specs.Outcome.{Outcome, model_cap}
 
 -- the status is the outcome's, and its whole text was written
 pub record EndsWhole (outcome : Outcome) (old : Option (List ℕ)) (answer : Status) (new : Option (List ℕ)) : Type 0 where
@@ -31,17 +34,42 @@ WritesNothing status.ReadFault old new = new ≡ old
 WritesNothing status.Memory old new = new ≡ old
 WritesNothing answer old new = Unit {0}
 
--- the cause of each answer: the place that is bad; accepted words for all that comes after judging them; and for a fault a count that rose, the cabinet's under the name that the words give
-abbrev pub HasCause : List (List ℕ) → Status → (List ℕ → ℕ) → (List ℕ → ℕ) → ℕ → ℕ → Type 0
-HasCause words (status.BadWords at) reads reads' writes writes' = bad_place words ≡ Some at
-HasCause words status.ReadFault reads reads' writes writes' = (bad_place words ≡ None) × Rose (reads (model_of words)) (reads' (model_of words))
-HasCause words status.WriteFault reads reads' writes writes' = Rose writes writes'
-HasCause words answer reads reads' writes writes' = bad_place words ≡ None
+-- the judging gives a model
+abbrev pub Judges : Result SlideModel ModelFault → Type 0
+Judges judged = (model : SlideModel) × (judged ≡ Ok model)
 
--- where no count rose, the answer is the outcome's, or memory was wanted
-abbrev pub Completes : List (List ℕ) → Outcome → Status → (List ℕ → ℕ) → (List ℕ → ℕ) → ℕ → ℕ → Type 0
-Completes words outcome answer reads reads' writes writes' =
-    ¬ Rose (reads (model_of words)) (reads' (model_of words)) → ¬ Rose writes writes' → (answer ≡ status.Memory) ⊎ (answer ≡ outcome.status)
+-- the model's file is held, and its model accepted
+abbrev pub AcceptsModel : List (List ℕ) → (List ℕ → Option (List ℕ)) → Type 0
+AcceptsModel words held = (file : List ℕ) × (held (model_of words) ≡ Some file) × Judges (model_judged (take model_cap file))
+
+-- a tape's name was given, and the cabinet's count under it rose
+abbrev pub TapeRose : Option (List ℕ) → (List ℕ → ℕ) → (List ℕ → ℕ) → Type 0
+TapeRose tape reads reads' = (name : List ℕ) × (tape ≡ Some name) × Rose (reads name) (reads' name)
+
+-- a read failed: the cabinet's count rose under the model's name; or under the tape's, and there, where the cabinet tells, the model is accepted
+abbrev pub ReadRose : List (List ℕ) → Bool → (List ℕ → Option (List ℕ)) → (List ℕ → ℕ) → (List ℕ → ℕ) → Type 0
+ReadRose words tells held reads reads' =
+    Rose (reads (model_of words)) (reads' (model_of words)) ⊎ (TapeRose (tape_of words) reads reads' × (IsTrue tells → AcceptsModel words held))
+
+-- the cause of each answer: the place that is bad; accepted words for all that comes after judging them; and for a fault a count that rose
+module _ (words : List (List ℕ)) (tells : Bool) (held : List ℕ → Option (List ℕ)) where
+  abbrev pub HasCause : Status → (List ℕ → ℕ) → (List ℕ → ℕ) → ℕ → ℕ → Type 0
+  HasCause (status.BadWords at) reads reads' writes writes' = bad_place words ≡ Some at
+  HasCause status.ReadFault reads reads' writes writes' = (bad_place words ≡ None) × ReadRose words tells held reads reads'
+  HasCause status.WriteFault reads reads' writes writes' = Rose writes writes'
+  HasCause answer reads reads' writes writes' = bad_place words ≡ None
+
+  -- where no count rose, the answer is the outcome's, or memory was wanted
+  abbrev pub Completes : Outcome → Status → (List ℕ → ℕ) → (List ℕ → ℕ) → ℕ → ℕ → Type 0
+  Completes outcome answer reads reads' writes writes' =
+      ¬ ReadRose words tells held reads reads' → ¬ Rose writes writes' → (answer ≡ status.Memory) ⊎ (answer ≡ outcome.status)
+
+-- the cause of an answer once a model is accepted, with the tape's name where one is given
+abbrev pub HasTapeCause : Option (List ℕ) → Status → (List ℕ → ℕ) → (List ℕ → ℕ) → ℕ → ℕ → Type 0
+HasTapeCause tape (status.BadWords at) reads reads' writes writes' = ⊥
+HasTapeCause tape status.ReadFault reads reads' writes writes' = TapeRose tape reads reads'
+HasTapeCause tape status.WriteFault reads reads' writes writes' = Rose writes writes'
+HasTapeCause tape answer reads reads' writes writes' = Unit {0}
 
 -- ---- within the command, where no file is read any more
 

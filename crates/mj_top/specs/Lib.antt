@@ -1,6 +1,9 @@
+pub mod Controls
 pub mod Document
 pub mod Ends
+pub mod Lawful
 pub mod Model
+pub mod Motors
 pub mod Outcome
 pub mod Refusal
 pub mod Run

@@ -17,14 +17,15 @@ header_text steps = line (codes "trace 1 nq=1 nv=1 steps=") (decimal steps)
 
 -- there are no rows, so the stop is none, and cost and bound are 0
 abbrev pub no_rows_text : List ℕ
-no_rows_text = codes "residual 0\nradius 0 0\nrows 0 idle 0\nstop none\ncost 0 0\n"
+no_rows_text = codes "radius 0 0\nrows 0 idle 0\nstop none\ncost 0 0\n"
 
 unfoldable pub block_text : Block → List ℕ
 block_text block =
-    (((line (codes "step ") (decimal block.step)
-    ++ line (codes "q ") (signed_decimal block.after.q.mid))
-    ++ line (codes "v ") (signed_decimal block.after.v.mid))
-    ++ line (codes "a ") (signed_decimal block.accel.mid))
+    ((((line (codes "step ") (decimal block.step)
+    ++ line (codes "q ") (signed_decimal block.made.after.q.mid))
+    ++ line (codes "v ") (signed_decimal block.made.after.v.mid))
+    ++ line (codes "a ") (signed_decimal block.made.accel.mid))
+    ++ line (codes "residual ") (signed_decimal block.made.residual))
     ++ no_rows_text
 
 unfoldable pub end_text : End → List ℕ

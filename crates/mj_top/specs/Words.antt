@@ -64,9 +64,12 @@ model_name = codes "--model"
 abbrev pub steps_name : List ℕ
 steps_name = codes "--steps"
 
+abbrev pub tape_name : List ℕ
+tape_name = codes "--tape"
+
 -- a name of the command
 abbrev pub is_name : List ℕ → Bool
-is_name text = bytes_eq text model_name || bytes_eq text steps_name
+is_name text = (bytes_eq text model_name || bytes_eq text steps_name) || bytes_eq text tape_name
 
 -- a file's name has 1 to 4,096 bytes
 abbrev pub is_file_name : List ℕ → Bool
@@ -133,3 +136,7 @@ model_of words = unwrap_or (given words model_name) []
 
 abbrev pub step_count : List (List ℕ) → ℕ
 step_count words = unwrap_or (option_and_then steps_of (given words steps_name)) 0
+
+-- the tape's file, where one is named
+abbrev pub tape_of : List (List ℕ) → Option (List ℕ)
+tape_of words = given words tape_name

@@ -1,20 +1,24 @@
 // Reading a model.
-ghost use Rattle.std.specs.Prelude.{◌≡◌, ◌≤◌, ◌^◌, ◌⊎◌, unsigned_abs, option_map};
+ghost use Rattle.std.specs.Prelude.{◌≡◌, ◌⊎◌, IfOk, option_map};
 ghost use Rattle.toml.specs.View.{array_view, table_view};
 ghost use Rattle.toml.specs.Errors.{IsMemory};
+ghost use Rattle.mj_top.specs.Lawful.{IsLawful};
 ghost use Rattle.mj_top.specs.Model as spec;
+ghost use Rattle.mj_top.specs.Motors.{BuiltOrMemory};
 
 mod document;
+mod motors;
 #[cfg(test)]
 mod tests;
 mod timestep;
 
 use document::{
-    Bounds, integer_at, items_at, only_keys, only_table_at, table_at, text_at, third_of_three,
+    Bounds, at_scale, integer_at, items_at, only_keys, only_table_at, table_at, text_at,
+    third_of_three,
 };
 use fx_num::{Fix, Number};
-use fx_whole::{narrow, scaled};
 use mj_types::{ModelCode, ModelFault, Path, SlideModel};
+use motors::motors_at;
 use std::alloc::Global;
 use timestep::timestep_of;
 use toml::Table;
@@ -30,11 +34,12 @@ struct Settings {
     gravity: Fix<32>,
 }
 
-/// Reads a model: a TOML document of one body on one slide joint. The fault is `TooLarge` where the
+/// Reads a model: a TOML document of one body on one slide joint, and of the motors on it. The fault is `TooLarge` where the
 /// file has more than 1,048,576 bytes, `NotToml` where it is no document, `NotBuilt` where the
 /// document has another form, each with an empty path; or `Memory`.
 pub(crate) fn read_model(alloc: Global, bytes: &[u8]) -> Result<SlideModel, ModelFault>
-    ensures { spec.OrMemory result (spec.model_judged bytes.now) }
+    ensures judged { spec.OrMemory result (spec.model_judged bytes.now) }
+    ensures lawful { IfOk result IsLawful }
 {
     if bytes.len() > MOST_BYTES {
         return Err(refusal(alloc, ModelCode::TooLarge));
@@ -69,28 +74,40 @@ fn refusal(alloc: Global, code: ModelCode) -> ModelFault
 
 /// The model that a document describes, or the refusal of its form.
 fn built(alloc: Global, document: &Table) -> Result<SlideModel, ModelFault>
-    ensures { result ≡ spec.built (table_view document.now) }
+    ensures judged { spec.OrMemory result (spec.built (table_view document.now)) }
+    ensures lawful { IfOk result IsLawful }
 {
-    match slide_model(document) {
-        Some(model) => Ok(model),
-        None => Err(refusal(alloc, ModelCode::NotBuilt)),
+    match slide_model(alloc, document) {
+        Ok(model) => Ok(model),
+        Err(code) => Err(refusal(alloc, code)),
     }
 }
 
-/// The model that a document describes, if it has this form and nothing else.
-fn slide_model(document: &Table) -> Option<SlideModel>
-    ensures { result ≡ spec.slide_model (table_view document.now) }
+/// The model that a document describes, if it has this form and nothing else. The error is `NotBuilt` or `Memory`.
+fn slide_model(alloc: Global, document: &Table) -> Result<SlideModel, ModelCode>
+    ensures { BuiltOrMemory result (spec.slide_model (table_view document.now)) }
 {
-    if !only_keys(document, &["option", "body"]) {
-        return None;
-    }
-    let settings = option_of(table_at(document, "option")?)?;
-    let mass = body_of(only_table_at(document, "body")?)?;
-    Some(SlideModel {
+    let settings = settings_at(document).ok_or(ModelCode::NotBuilt)?;
+    let body = only_table_at(document, "body").ok_or(ModelCode::NotBuilt)?;
+    let mass = body_of(body).ok_or(ModelCode::NotBuilt)?;
+    let joint = joint_in(body).ok_or(ModelCode::NotBuilt)?;
+    let motors = motors_at(alloc, document, joint)?;
+    Ok(SlideModel {
         h: settings.h,
         gravity: settings.gravity,
         mass,
+        motors,
     })
+}
+
+/// What a document's `option` table sets, if the document has no key of another name than a model's.
+fn settings_at(document: &Table) -> Option<Settings>
+    ensures { result ≡ spec.settings_at (table_view document.now) }
+{
+    if !only_keys(document, &["option", "body", "motor"]) {
+        return None;
+    }
+    option_of(table_at(document, "option")?)
 }
 
 /// What an `option` table sets: the time step, and the third component of gravity.
@@ -122,18 +139,7 @@ fn gravity_of(items: &Array) -> Option<Fix<32>>
     }
 }
 
-/// A whole number at scale 32.
-fn at_scale(number: i64) -> Fix<32>
-    requires { unsigned_abs number ≤ 2 ^ 20 }
-    ensures { result ≡ spec.at_scale number }
-{
-    Number {
-        mid: narrow(scaled(number, 32)),
-        rad: (),
-    }
-}
-
-/// A body's mass, if the table has the form of a body.
+/// A body's mass, if the table has the form of a body, whatever its joint.
 fn body_of(table: &Table) -> Option<u32>
     ensures { result ≡ spec.body_of (table_view table.now) }
 {
@@ -141,9 +147,17 @@ fn body_of(table: &Table) -> Option<u32>
         return None;
     }
     body_name(table)?;
-    let mass = inertial_of(table_at(table, "inertial")?)?;
-    joint_of(only_table_at(table, "joint")?)?;
-    Some(mass)
+    inertial_of(table_at(table, "inertial")?)
+}
+
+/// The name of a body's joint, if the body has one, of the form of a slide joint.
+fn joint_in(body: &Table) -> Option<&str>
+    ensures { option_map (λ s. s.now) result ≡ spec.joint_in (table_view body.now) }
+{
+    match only_table_at(body, "joint") {
+        Some(joint) => joint_of(joint),
+        None => None,
+    }
 }
 
 /// The mass that an `inertial` table sets: a whole number from 1 to 128.

@@ -1,13 +1,15 @@
 // A run: the steps one after another, each told as it is done.
-ghost use Rattle.std.specs.Prelude.{◌≡◌, ◌+◌, ◌-◌, ◌<◌, ◌^◌, false, MatchResult};
+ghost use Rattle.std.specs.Prelude.{◌≡◌, ◌+◌, ◌-◌, ◌<◌, ◌^◌, false, length, MatchResult};
 ghost use Rattle.mj_io.specs.Sent.{Sent};
+ghost use Rattle.mj_top.specs.Controls.{control, values_of, Serves};
+ghost use Rattle.mj_top.specs.Lawful.{IsLawful};
 ghost use Rattle.mj_top.specs.Run.{run, end_of};
 ghost use Rattle.mj_top.specs.Trace.{blocks_text, trace_text};
 
-use crate::step::{State, start, step};
+use crate::step::{Motion, start, step};
 use crate::trace::{Block, send_block, send_end, send_header};
 use mj_io::{Failed, Page, Sink};
-use mj_types::{End, OutOfRange, SlideModel};
+use mj_types::{End, OutOfRange, SlideModel, Tape};
 
 // The end of a run whose step after `done` others is refused.
 fn early_end(done: u32, out: OutOfRange) -> End
@@ -21,14 +23,13 @@ fn early_end(done: u32, out: OutOfRange) -> End
 }
 
 // What is told of the step after `done` others.
-fn block_of(done: u32, after: &State, model: &SlideModel) -> Block
+fn block_of(done: u32, made: &Motion) -> Block
     requires { done < 2 ^ 32 - 1 }
-    ensures { result ≡ record { step = done + 1; after = after.now; accel = model.now.gravity } }
+    ensures { result ≡ record { step = done + 1; made = made.now } }
 {
     Block {
         step: done + 1,
-        after: *after,
-        accel: model.gravity,
+        made: *made,
     }
 }
 
@@ -38,18 +39,22 @@ fn send_steps<S: Sink>(
     sink: &mut S,
     page: &mut Page,
     model: &SlideModel,
+    tape: &Option<Tape>,
     steps: u32,
 ) -> Result<End, Failed>
-    ensures sent { Sent S.holds S.faults sink.old page.old (blocks_text (run model.now steps).blocks) sink.new page.new }
-    ensures end { MatchResult result (λ end. end ≡ end_of model.now steps) (λ _. page.new.going ≡ false) }
+    requires lawful { IsLawful model.now }
+    requires serves { Serves tape.now (length model.now.motors) steps }
+    ensures sent { Sent S.holds S.faults sink.old page.old (blocks_text (run model.now (control (values_of tape.now)) steps).blocks) sink.new page.new }
+    ensures end { MatchResult result (λ end. end ≡ end_of model.now (control (values_of tape.now)) steps) (λ _. page.new.going ≡ false) }
 {
     let mut state = start();
     for done in 0..steps {
-        match step(model, &state) {
-            Ok(after) => state = after,
+        let made = match step(model, tape, done as usize, &state) {
+            Ok(made) => made,
             Err(out) => return Ok(early_end(done, out)),
-        }
-        send_block(sink, page, &block_of(done, &state, model));
+        };
+        state = made.after;
+        send_block(sink, page, &block_of(done, &made));
         if !page.is_going() {
             return Err(Failed);
         }
@@ -64,13 +69,16 @@ pub fn send_run<S: Sink>(
     sink: &mut S,
     page: &mut Page,
     model: &SlideModel,
+    tape: &Option<Tape>,
     steps: u32,
 ) -> Result<End, Failed>
-    ensures sent { Sent S.holds S.faults sink.old page.old (trace_text steps (run model.now steps)) sink.new page.new }
-    ensures end { MatchResult result (λ end. end ≡ end_of model.now steps) (λ _. page.new.going ≡ false) }
+    requires lawful { IsLawful model.now }
+    requires serves { Serves tape.now (length model.now.motors) steps }
+    ensures sent { Sent S.holds S.faults sink.old page.old (trace_text steps (run model.now (control (values_of tape.now)) steps)) sink.new page.new }
+    ensures end { MatchResult result (λ end. end ≡ end_of model.now (control (values_of tape.now)) steps) (λ _. page.new.going ≡ false) }
 {
     send_header(sink, page, steps);
-    match send_steps(sink, page, model, steps) {
+    match send_steps(sink, page, model, tape, steps) {
         Ok(end) => {
             send_end(sink, page, &end);
             Ok(end)

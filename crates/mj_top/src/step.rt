@@ -1,10 +1,13 @@
 // One step of a body that slides.
-ghost use Rattle.std.specs.Prelude.{◌≡◌, ◌+◌, ◌<◌, ◌≤◌, ◌^◌, ◌+ℤ◌, ◌*ℤ◌, pos, Some, None, unsigned_abs, OnOk, MatchOption, MatchResult};
-ghost use Rattle.mj_top.specs.Step.{scaled as scaled_lem, next as next_lem, first_out, motion_limit, start as start_lem};
+ghost use Rattle.std.specs.Prelude.{◌≡◌, ◌<◌, ◌≤◌, ◌^◌, ◌+ℤ◌, ℕ, Some, None, length, unsigned_abs, MatchOption, MatchResult};
+ghost use Rattle.mj_top.specs.Controls.{control, values_of, Holds};
+ghost use Rattle.mj_top.specs.Lawful.{IsLawful};
+ghost use Rattle.mj_top.specs.Step.{scaled as scaled_lem, applied, made as made_lem, first_out, force_limit, motion_limit, start as start_lem};
 
+use crate::forces::{acceleration, applied_force, load_of, residual};
 use fx_num::Fix;
 use fx_whole::{is_within, narrow, nearest_shift, product, sum};
-use mj_types::{OutOfRange, Quantity, SlideModel};
+use mj_types::{OutOfRange, Quantity, SlideModel, Tape};
 
 /// Where the body is and how fast it moves.
 #[derive(Clone, Copy)]
@@ -13,8 +16,20 @@ pub struct State {
     pub v: Fix<32>,
 }
 
+/// What a step that isn't refused makes: the state after it, the acceleration, and how far mass times
+/// acceleration is from the load, at 2^-72.
+#[derive(Clone, Copy)]
+pub struct Motion {
+    pub after: State,
+    pub accel: Fix<32>,
+    pub residual: i128,
+}
+
 /// The greatest size of a velocity and of a slide's position, raw: 4,096.
 const MOTION_LIMIT: i64 = 1 << 44;
+
+/// The greatest size of an applied force, raw: 1,048,576.
+const FORCE_LIMIT: i64 = 1 << 52;
 
 // The product of two numbers at 2^-32, rounded once.
 #[tactic(auto, unfolding(crate::specs::Step::scaled))]
@@ -74,19 +89,63 @@ fn out_of(kind: Quantity) -> OutOfRange
     OutOfRange { kind, index: 1 }
 }
 
-/// One step: the acceleration is gravity, then the velocity and with it the position advance. Takes no
-/// memory. The first number out of range is named.
-pub fn step(model: &SlideModel, state: &State) -> Result<State, OutOfRange>
-    ensures { MatchResult result
-        (λ after. (first_out model.now state.now ≡ None) × (after ≡ next_lem model.now state.now))
-        (λ out. first_out model.now state.now ≡ Some out) }
+// The applied force of step `k`, where it doesn't pass its limit in size.
+fn force_within(model: &SlideModel, tape: &Option<Tape>, k: usize) -> Option<i128>
+    requires lawful { IsLawful model.now }
+    requires holds { (j : ℕ) → j < length model.now.motors → Holds tape.now k j }
+    ensures { MatchOption result
+        (force_limit < unsigned_abs (applied model.now (control (values_of tape.now) k)))
+        (λ force. (force ≡ applied model.now (control (values_of tape.now) k)) × (unsigned_abs force ≤ force_limit)) }
 {
-    let v = match advanced(&state.v, &model.h, &model.gravity) {
+    let force = applied_force(model, tape, k);
+    if is_within(force, FORCE_LIMIT) {
+        Some(force)
+    } else {
+        None
+    }
+}
+
+// A step under an applied force within its limit.
+fn advance(model: &SlideModel, force: &i128, state: &State) -> Result<Motion, OutOfRange>
+    requires lawful { IsLawful model.now }
+    requires small { unsigned_abs force.now ≤ force_limit }
+    ensures { MatchResult result
+        (λ made. (first_out model.now force.now state.now ≡ None) × (made ≡ made_lem model.now force.now state.now))
+        (λ out. first_out model.now force.now state.now ≡ Some out) }
+{
+    let load = load_of(model, force);
+    let accel = acceleration(&model.mass, &load);
+    let v = match advanced(&state.v, &model.h, &accel) {
         Some(v) => v,
         None => return Err(out_of(Quantity::Velocity)),
     };
     match advanced(&state.q, &model.h, &v) {
-        Some(q) => Ok(State { q, v }),
+        Some(q) => Ok(Motion {
+            after: State { q, v },
+            accel,
+            residual: residual(&model.mass, &accel, &load),
+        }),
         None => Err(out_of(Quantity::Position)),
+    }
+}
+
+/// Step `k`, from 0: the motors' force and gravity accelerate the body, then the velocity and with it
+/// the position advance. Takes no memory. The first number out of range is named.
+pub fn step(
+    model: &SlideModel,
+    tape: &Option<Tape>,
+    k: usize,
+    state: &State,
+) -> Result<Motion, OutOfRange>
+    requires lawful { IsLawful model.now }
+    requires holds { (j : ℕ) → j < length model.now.motors → Holds tape.now k j }
+    ensures { MatchResult result
+        (λ made. (first_out model.now (applied model.now (control (values_of tape.now) k)) state.now ≡ None)
+            × (made ≡ made_lem model.now (applied model.now (control (values_of tape.now) k)) state.now))
+        (λ out. first_out model.now (applied model.now (control (values_of tape.now) k)) state.now ≡ Some out) }
+{
+    match force_within(model, tape, k) {
+        Some(force) => advance(model, &force, state),
+        None => Err(out_of(Quantity::Applied)),
     }
 }

@@ -1,8 +1,10 @@
 // Runs through the top call, with their exact bytes.
 ghost use Rattle.std.specs.Prelude.{◌≤◌};
 
+mod tape;
+
 use crate::run_words;
-use mj_io::{MemCabinet, MemSink};
+use mj_io::{MemCabinet, MemSink, RoomSink};
 use std::alloc::{AllocError, Global};
 use std::test::Fail;
 use std::thread::Threads;
@@ -28,11 +30,20 @@ fn words_of(alloc: Global, texts: &[&str]) -> Result<Vec<String>, AllocError> {
     Ok(words)
 }
 
-// A cabinet that holds one file, under the name `m`.
-fn cabinet_of(alloc: Global, bytes: &[u8], fails: &[u64]) -> Result<MemCabinet, AllocError> {
+// A cabinet that holds a model under the name `m` and a tape under the name `t`.
+fn cabinet_of(
+    alloc: Global,
+    model: &[u8],
+    tape: &[u8],
+    fails: &[u64],
+) -> Result<MemCabinet, AllocError> {
     let mut files = Vec::new(alloc);
-    let name = String::from_str(alloc, "m")?;
-    files.push((name, Vec::from_slice(alloc, bytes)?))?;
+    for (name, bytes) in [("m", model), ("t", tape)] {
+        files.push((
+            String::from_str(alloc, name)?,
+            Vec::from_slice(alloc, bytes)?,
+        ))?;
+    }
     Ok(MemCabinet::new(files, Vec::from_slice(alloc, fails)?))
 }
 
@@ -49,8 +60,18 @@ fn tell<R: Threads + Sync>(
     file: &[u8],
     texts: &[&str],
 ) -> Result<Told, Fail> {
+    tell_with(rt, alloc, file, b"", texts)
+}
+
+fn tell_with<R: Threads + Sync>(
+    rt: &R,
+    alloc: Global,
+    model: &[u8],
+    tape: &[u8],
+    texts: &[&str],
+) -> Result<Told, Fail> {
     let words = words_of(alloc, texts)?;
-    let mut cabinet = cabinet_of(alloc, file, &[])?;
+    let mut cabinet = cabinet_of(alloc, model, tape, &[])?;
     let mut sink = sink_of(alloc, &[], 1_000_000)?;
     let status = run_words(rt, alloc, words.as_slice(), &mut cabinet, &mut sink);
     Ok(Told {
@@ -101,6 +122,21 @@ fn no_steps_are_a_header_and_an_end(rt: HostRuntime) -> Result<(), Fail> {
         told.text.as_slice(),
         b"trace 1 nq=1 nv=1 steps=0\nend done\n".as_slice()
     );
+    Ok(())
+}
+
+#[test]
+fn a_sink_with_too_little_room_tells_nothing(rt: HostRuntime) -> Result<(), Fail> {
+    let alloc = rt.alloc();
+    let words = words_of(alloc, &["run", "--model", "m", "--steps", "0"])?;
+    let text = b"trace 1 nq=1 nv=1 steps=0\nend done\n".as_slice();
+    for (room, held) in [(text.len(), Some(text)), (text.len() - 1, None)] {
+        let mut cabinet = cabinet_of(alloc, SLIDE.as_bytes(), b"", &[])?;
+        let mut sink = RoomSink::new(alloc, room)?;
+        let status = run_words(&rt, alloc, words.as_slice(), &mut cabinet, &mut sink);
+        assert_eq!(rt; status.code(), 0);
+        assert!(rt; sink.held() == held);
+    }
     Ok(())
 }
 
@@ -177,7 +213,7 @@ fn a_file_that_is_missing_or_fails_is_a_read_fault(rt: HostRuntime) -> Result<()
     let alloc = rt.alloc();
     for (name, fails) in [("n", [].as_slice()), ("m", [1u64].as_slice())] {
         let words = words_of(alloc, &["run", "--model", name, "--steps", "3"])?;
-        let mut cabinet = cabinet_of(alloc, SLIDE.as_bytes(), fails)?;
+        let mut cabinet = cabinet_of(alloc, SLIDE.as_bytes(), b"", fails)?;
         let mut sink = sink_of(alloc, &[], 100)?;
         let status = run_words(&rt, alloc, words.as_slice(), &mut cabinet, &mut sink);
         assert_eq!(rt; status.code(), 6);
@@ -187,11 +223,24 @@ fn a_file_that_is_missing_or_fails_is_a_read_fault(rt: HostRuntime) -> Result<()
 }
 
 #[test]
+fn the_seventh_write_of_one_byte_fails(rt: HostRuntime) -> Result<(), Fail> {
+    let alloc = rt.alloc();
+    let words = words_of(alloc, &RUN_3)?;
+    let mut cabinet = cabinet_of(alloc, SLIDE.as_bytes(), b"", &[])?;
+    let mut sink = sink_of(alloc, &[7], 1)?;
+    let status = run_words(&rt, alloc, words.as_slice(), &mut cabinet, &mut sink);
+    assert_eq!(rt; status.code(), 7);
+    assert_eq!(rt; sink.held(), b"trace ".as_slice());
+    assert_eq!(rt; sink.faults(), 1);
+    Ok(())
+}
+
+#[test]
 fn a_write_that_fails_leaves_a_front(rt: HostRuntime) -> Result<(), Fail> {
     let alloc = rt.alloc();
     let words = words_of(alloc, &RUN_3)?;
     for k in 1..TRACE.len() + 1 {
-        let mut cabinet = cabinet_of(alloc, SLIDE.as_bytes(), &[])?;
+        let mut cabinet = cabinet_of(alloc, SLIDE.as_bytes(), b"", &[])?;
         let mut sink = sink_of(alloc, &[k as u64], 1)?;
         let status = run_words(&rt, alloc, words.as_slice(), &mut cabinet, &mut sink);
         assert_eq!(rt; status.code(), 7);

@@ -1,24 +1,32 @@
 // The top call: what a command does, from its words to its answer.
-ghost use Rattle.std.specs.Prelude.{◌≡◌, IsTrue, None, Some, map, string_bytes};
+ghost use Rattle.std.specs.Prelude.{◌≡◌, IsTrue, None, Some, length, map, string_bytes};
 ghost use Rattle.std.specs.Option.{ForSome};
-ghost use Rattle.mj_top.specs.Words.{bad_place as bad_place_lem};
+ghost use Rattle.mj_tape.specs.Judging.{judged};
+ghost use Rattle.mj_top.specs.Controls.{control, values_of, Serves};
+ghost use Rattle.mj_top.specs.Lawful.{IsLawful};
+ghost use Rattle.mj_top.specs.Words.{bad_place as bad_place_lem, step_count as step_count_lem, tape_of as tape_of_lem};
 ghost use Rattle.mj_top.specs.Model.{model_judged};
-ghost use Rattle.mj_top.specs.Run.{run};
-ghost use Rattle.mj_top.specs.Outcome.{words_refused, status_of as status_of_lem, ran, with_model, outcome};
-ghost use Rattle.mj_top.specs.Refusal.{model_refusal};
-ghost use Rattle.mj_top.specs.Ends.{Answers, WritesNothing, HasCause, Completes, Ends, EndsOrMemory, unless_failed};
+ghost use Rattle.mj_top.specs.Outcome.{words_refused, model_refused, tape_refused, status_of as status_of_lem, ran, with_tape, with_tape_name, with_model, tape_room, outcome};
+ghost use Rattle.mj_top.specs.Ends.{Answers, WritesNothing, HasCause, Completes, HasTapeCause, Judges, Ends, EndsOrMemory, unless_failed};
 
 use crate::model::read_model;
-use crate::refusal::{send_model_refusal, send_words_refusal};
+use crate::refusal::{send_model_refusal, send_tape_refusal, send_words_refusal};
 use crate::run::send_run;
-use crate::words::{bad_place, model_of, step_count};
+use crate::words::{bad_place, model_of, step_count, tape_of};
 use mj_io::{Cabinet, CabinetFault, Failed, Page, Sink, finish};
-use mj_types::{End, ModelCode, ModelFault, SlideModel, Status};
+use mj_tape::tape;
+use mj_types::{End, ModelCode, ModelFault, SlideModel, Status, Tape, TapeFault};
 use std::alloc::Global;
 use std::thread::Threads;
 
 /// A model's file is read with one byte more than its limit.
 const MODEL_CAP: usize = 1_048_577;
+
+/// A tape's file is read with one byte more than its limit.
+const TAPE_CAP: usize = 67_108_865;
+
+/// How many values the tapes of a command may hold together.
+const TAPE_ROOM: usize = 4_000_000;
 
 // The status, unless the writing failed.
 fn answered(written: Result<(), Failed>, status: Status) -> Status
@@ -52,7 +60,7 @@ fn refuse_words<S: Sink>(sink: &mut S, at: usize) -> Status
 
 // A refused model.
 fn refuse_model<S: Sink>(sink: &mut S, fault: ModelFault) -> Status
-    ensures { Ends S.holds S.faults (record { status = Status.BadModel fault; text = model_refusal fault }) sink.old result sink.new }
+    ensures { Ends S.holds S.faults (model_refused fault) sink.old result sink.new }
 {
     let mut page = Page::new();
     send_model_refusal(sink, &mut page, &fault);
@@ -60,12 +68,24 @@ fn refuse_model<S: Sink>(sink: &mut S, fault: ModelFault) -> Status
     answered(written, Status::BadModel(fault))
 }
 
-// A run of an accepted model.
-fn run_model<S: Sink>(sink: &mut S, model: &SlideModel, steps: u32) -> Status
-    ensures { Ends S.holds S.faults (ran steps model.now) sink.old result sink.new }
+// A refused tape.
+fn refuse_tape<S: Sink>(sink: &mut S, fault: TapeFault) -> Status
+    ensures { Ends S.holds S.faults (tape_refused fault) sink.old result sink.new }
 {
     let mut page = Page::new();
-    match send_run(sink, &mut page, model, steps) {
+    send_tape_refusal(sink, &mut page, 1, fault);
+    let written = finish(sink, &mut page);
+    answered(written, Status::BadTape { tape: 1, fault })
+}
+
+// A run of an accepted model.
+fn run_model<S: Sink>(sink: &mut S, model: &SlideModel, tape: &Option<Tape>, steps: u32) -> Status
+    requires lawful { IsLawful model.now }
+    requires serves { Serves tape.now (length model.now.motors) steps }
+    ensures { Ends S.holds S.faults (ran steps model.now (control (values_of tape.now))) sink.old result sink.new }
+{
+    let mut page = Page::new();
+    match send_run(sink, &mut page, model, tape, steps) {
         Ok(end) => {
             let written = finish(sink, &mut page);
             answered(written, status_of(end))
@@ -74,12 +94,64 @@ fn run_model<S: Sink>(sink: &mut S, model: &SlideModel, steps: u32) -> Status
     }
 }
 
+// A tape's file that was read.
+fn run_tape_file<S: Sink>(
+    alloc: Global,
+    sink: &mut S,
+    model: &SlideModel,
+    bytes: &[u8],
+    steps: u32,
+) -> Status
+    requires { IsLawful model.now }
+    ensures { EndsOrMemory S.holds S.faults (with_tape steps model.now (judged (length model.now.motors) steps tape_room bytes.now)) sink.old result sink.new }
+{
+    match tape(alloc, model, bytes, steps, TAPE_ROOM) {
+        Ok(tape) => run_model(sink, model, &Some(tape), steps),
+        Err(fault) => match fault {
+            TapeFault::Memory => Status::Memory,
+            _ => refuse_tape(sink, fault),
+        },
+    }
+}
+
+// An accepted model, with the tape where one is named.
+fn run_with_tape<C: Cabinet, S: Sink>(
+    alloc: Global,
+    words: &[String],
+    model: &SlideModel,
+    cabinet: &mut C,
+    sink: &mut S,
+) -> Status
+    requires { IsLawful model.now }
+    ensures outcome { IsTrue (C.tells cabinet.old) → Answers (with_tape_name (C.holds cabinet.old) (step_count_lem (map string_bytes words.now)) model.now (tape_of_lem (map string_bytes words.now))) result (S.holds sink.old) (S.holds sink.new) }
+    ensures nothing { WritesNothing result (S.holds sink.old) (S.holds sink.new) }
+    ensures cause { HasTapeCause (tape_of_lem (map string_bytes words.now)) result (C.faults cabinet.old) (C.faults cabinet.new) (S.faults sink.old) (S.faults sink.new) }
+{
+    match tape_of(words) {
+        None => run_model(sink, model, &None, step_count(words)),
+        Some(name) => match cabinet.read(alloc, name, TAPE_CAP) {
+            Ok(bytes) => run_tape_file(alloc, sink, model, bytes.as_slice(), step_count(words)),
+            Err(CabinetFault::Failed) => Status::ReadFault,
+            Err(CabinetFault::Memory) => Status::Memory,
+        },
+    }
+}
+
 // A model's file that was read.
-fn run_file<S: Sink>(alloc: Global, sink: &mut S, bytes: &[u8], steps: u32) -> Status
-    ensures { EndsOrMemory S.holds S.faults (with_model steps (model_judged bytes.now)) sink.old result sink.new }
+fn run_model_file<C: Cabinet, S: Sink>(
+    alloc: Global,
+    words: &[String],
+    bytes: &[u8],
+    cabinet: &mut C,
+    sink: &mut S,
+) -> Status
+    ensures outcome { IsTrue (C.tells cabinet.old) → Answers (with_model (C.holds cabinet.old) (step_count_lem (map string_bytes words.now)) (tape_of_lem (map string_bytes words.now)) (model_judged bytes.now)) result (S.holds sink.old) (S.holds sink.new) }
+    ensures nothing { WritesNothing result (S.holds sink.old) (S.holds sink.new) }
+    ensures cause { HasTapeCause (tape_of_lem (map string_bytes words.now)) result (C.faults cabinet.old) (C.faults cabinet.new) (S.faults sink.old) (S.faults sink.new) }
+    ensures accepted { result ≡ Status.ReadFault → Judges (model_judged bytes.now) }
 {
     match read_model(alloc, bytes) {
-        Ok(model) => run_model(sink, &model, steps),
+        Ok(model) => run_with_tape(alloc, words, &model, cabinet, sink),
         Err(fault) => match fault.code {
             ModelCode::Memory => Status::Memory,
             _ => refuse_model(sink, fault),
@@ -97,10 +169,10 @@ fn run_accepted<C: Cabinet, S: Sink>(
     requires { bad_place_lem (map string_bytes words.now) ≡ None }
     ensures outcome { IsTrue (C.tells cabinet.old) → Answers (outcome (map string_bytes words.now) (C.holds cabinet.old)) result (S.holds sink.old) (S.holds sink.new) }
     ensures nothing { WritesNothing result (S.holds sink.old) (S.holds sink.new) }
-    ensures cause { HasCause (map string_bytes words.now) result (C.faults cabinet.old) (C.faults cabinet.new) (S.faults sink.old) (S.faults sink.new) }
+    ensures cause { HasCause (map string_bytes words.now) (C.tells cabinet.old) (C.holds cabinet.old) result (C.faults cabinet.old) (C.faults cabinet.new) (S.faults sink.old) (S.faults sink.new) }
 {
     match cabinet.read(alloc, model_of(words), MODEL_CAP) {
-        Ok(bytes) => run_file(alloc, sink, bytes.as_slice(), step_count(words)),
+        Ok(bytes) => run_model_file(alloc, words, bytes.as_slice(), cabinet, sink),
         Err(CabinetFault::Failed) => Status::ReadFault,
         Err(CabinetFault::Memory) => Status::Memory,
     }
@@ -124,8 +196,8 @@ pub fn run_words<R: Threads + Sync, C: Cabinet, S: Sink>(
     ensures outcome { IsTrue (C.tells cabinet.old) → Answers (outcome (map string_bytes words.now) (C.holds cabinet.old)) result (S.holds sink.old) (S.holds sink.new) }
     ensures nothing { WritesNothing result (S.holds sink.old) (S.holds sink.new) }
     ensures refused { ForSome (bad_place_lem (map string_bytes words.now)) (λ at. Answers (Some (words_refused at)) result (S.holds sink.old) (S.holds sink.new)) }
-    ensures cause { HasCause (map string_bytes words.now) result (C.faults cabinet.old) (C.faults cabinet.new) (S.faults sink.old) (S.faults sink.new) }
-    ensures complete { IsTrue (C.tells cabinet.old) → ForSome (outcome (map string_bytes words.now) (C.holds cabinet.old)) (λ x. Completes (map string_bytes words.now) x result (C.faults cabinet.old) (C.faults cabinet.new) (S.faults sink.old) (S.faults sink.new)) }
+    ensures cause { HasCause (map string_bytes words.now) (C.tells cabinet.old) (C.holds cabinet.old) result (C.faults cabinet.old) (C.faults cabinet.new) (S.faults sink.old) (S.faults sink.new) }
+    ensures complete { IsTrue (C.tells cabinet.old) → ForSome (outcome (map string_bytes words.now) (C.holds cabinet.old)) (λ x. Completes (map string_bytes words.now) (C.tells cabinet.old) (C.holds cabinet.old) x result (C.faults cabinet.old) (C.faults cabinet.new) (S.faults sink.old) (S.faults sink.new)) }
 {
     match bad_place(words) {
         Some(at) => refuse_words(sink, at),

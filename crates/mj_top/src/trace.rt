@@ -4,17 +4,16 @@ ghost use Rattle.std.specs.Fmt.{signed_decimal};
 ghost use Rattle.mj_io.specs.Sent.{Sent};
 ghost use Rattle.mj_top.specs.Trace.{line, header_text, no_rows_text, block_text, end_text};
 
-use crate::step::State;
+use crate::step::Motion;
 use fx_num::Fix;
-use mj_io::{Page, Sink, flush, send, send_signed, send_size, send_unsigned};
+use mj_io::{Page, Sink, flush, send, send_signed, send_size, send_unsigned, send_wide};
 use mj_types::{End, Quantity};
 
-/// What is told of one step that was done: its number, the state after it, and the acceleration.
+/// What is told of one step that was done: its number, from 1, and what it made.
 #[derive(Drop)]
 pub struct Block {
     pub step: u32,
-    pub after: State,
-    pub accel: Fix<32>,
+    pub made: Motion,
 }
 
 // A label and a number's raw value on a line.
@@ -35,6 +34,15 @@ fn send_unsigned_line<S: Sink>(sink: &mut S, page: &mut Page, label: &[u8], n: &
     send(sink, page, b"\n");
 }
 
+// A label and a wide number on a line.
+fn send_wide_line<S: Sink>(sink: &mut S, page: &mut Page, label: &[u8], n: &i128)
+    ensures { Sent S.holds S.faults sink.old page.old (line label.now (signed_decimal n.now)) sink.new page.new }
+{
+    send(sink, page, label);
+    send_wide(sink, page, n);
+    send(sink, page, b"\n");
+}
+
 /// The header of a run of this many steps. Nothing is left in the page.
 pub fn send_header<S: Sink>(sink: &mut S, page: &mut Page, steps: u32)
     ensures { Sent S.holds S.faults sink.old page.old (header_text steps) sink.new page.new }
@@ -49,13 +57,14 @@ pub fn send_block<S: Sink>(sink: &mut S, page: &mut Page, block: &Block)
     ensures { Sent S.holds S.faults sink.old page.old (block_text block.now) sink.new page.new }
 {
     send_unsigned_line(sink, page, b"step ", &block.step);
-    send_number_line(sink, page, b"q ", &block.after.q);
-    send_number_line(sink, page, b"v ", &block.after.v);
-    send_number_line(sink, page, b"a ", &block.accel);
+    send_number_line(sink, page, b"q ", &block.made.after.q);
+    send_number_line(sink, page, b"v ", &block.made.after.v);
+    send_number_line(sink, page, b"a ", &block.made.accel);
+    send_wide_line(sink, page, b"residual ", &block.made.residual);
     send(
         sink,
         page,
-        b"residual 0\nradius 0 0\nrows 0 idle 0\nstop none\ncost 0 0\n",
+        b"radius 0 0\nrows 0 idle 0\nstop none\ncost 0 0\n",
     );
     flush(sink, page);
 }

@@ -1,7 +1,7 @@
 // Judging the words after the program's name. It takes no memory.
 ghost use Rattle.std.specs.Prelude.{◌≡◌, ◌+◌, ◌^◌, min, ◌*◌, ◌<◌, ◌≤◌, ℕ, List, [], map, length, Option, Some, None, is_some, option_map, string_bytes, MatchResult};
 ghost use Rattle.std.specs.List.{list_all};
-ghost use Rattle.mj_top.specs.Words.{word, is_digit, leads as leads_lem, is_number as is_number_lem, digits_value, number_up_to as number_up_to_lem, is_name as is_name_lem, steps_of as steps_of_lem, fits as fits_lem, given as given_lem, bad_command as bad_command_lem, stood_before as stood_before_lem, bad_name as bad_name_lem, bad_names as bad_names_lem, value_missing as value_missing_lem, bad_value as bad_value_lem, bad_values as bad_values_lem, name_missing as name_missing_lem, bad_place as bad_place_lem, model_of as model_of_lem, step_count as step_count_lem};
+ghost use Rattle.mj_top.specs.Words.{word, is_digit, leads as leads_lem, is_number as is_number_lem, digits_value, number_up_to as number_up_to_lem, is_name as is_name_lem, steps_of as steps_of_lem, fits as fits_lem, given as given_lem, bad_command as bad_command_lem, stood_before as stood_before_lem, bad_name as bad_name_lem, bad_names as bad_names_lem, value_missing as value_missing_lem, bad_value as bad_value_lem, bad_values as bad_values_lem, name_missing as name_missing_lem, bad_place as bad_place_lem, model_of as model_of_lem, step_count as step_count_lem, tape_of as tape_of_lem};
 
 // Word `k`, from 0, or the empty word past the end.
 fn word_at(words: &[String], k: usize) -> &str
@@ -71,7 +71,7 @@ fn number_up_to(text: &[u8], most: u32) -> Option<u32>
 fn is_name(text: &str) -> bool
     ensures { result ≡ is_name_lem text.now }
 {
-    text == "--model" || text == "--steps"
+    text == "--model" || text == "--steps" || text == "--tape"
 }
 
 fn steps_of(text: &str) -> Option<u32>
@@ -233,4 +233,11 @@ pub fn step_count(words: &[String]) -> u32
         },
         None => 0,
     }
+}
+
+/// The name of the tape's file, where accepted words give one.
+pub fn tape_of(words: &[String]) -> Option<&str>
+    ensures { option_map (λ s. s.now) result ≡ tape_of_lem (map string_bytes words.now) }
+{
+    given(words, "--tape")
 }

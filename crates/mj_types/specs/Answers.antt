@@ -17,6 +17,7 @@ code_of status.Done = 0
 code_of (status.BadWords at) = 2
 code_of (status.OutOfRange step kind index) = 3
 code_of (status.BadModel fault) = 4
+code_of (status.BadTape tape fault) = 5
 code_of status.ReadFault = 6
 code_of status.WriteFault = 7
 code_of status.Memory = 8

@@ -1,8 +1,9 @@
 // The model of a body that slides.
+use crate::tape::Motors;
 use fx_num::Fix;
 
 /// One body on one slide joint along the world's z axis.
-#[derive(Clone, Copy, Debug, PartialEq, Eq)]
+#[derive(Debug, Drop)]
 pub struct SlideModel {
     /// The time step, in seconds.
     pub h: Fix<32>,
@@ -10,4 +11,6 @@ pub struct SlideModel {
     pub gravity: Fix<32>,
     /// The body's mass, in whole kilograms.
     pub mass: u32,
+    /// The motors that push the body along the axis.
+    pub motors: Motors,
 }

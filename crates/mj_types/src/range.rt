@@ -5,6 +5,7 @@ ghost use Rattle.mj_types.specs.Ranges.{quantity_name};
 /// A kind of number that a step makes within a range. A printed kind is its name.
 #[derive(Clone, Copy, Debug, PartialEq, Eq)]
 pub enum Quantity {
+    Applied,
     Velocity,
     Position,
 }
@@ -15,6 +16,7 @@ impl Quantity {
         ensures { result.now ≡ quantity_name self }
     {
         match self {
+            Quantity::Applied => "Applied",
             Quantity::Velocity => "Velocity",
             Quantity::Position => "Position",
         }

@@ -3,6 +3,7 @@ ghost use Rattle.std.specs.Prelude.{◌≡◌};
 ghost use Rattle.mj_types.specs.Answers.{code_of, model_code_name};
 
 use crate::range::Quantity;
+use crate::tape::TapeFault;
 use std::marker::Model;
 
 /// Why a model is refused.
@@ -83,6 +84,8 @@ pub enum Status {
     },
     /// The model is refused.
     BadModel(ModelFault),
+    /// A tape is refused: which one, from 1, and why.
+    BadTape { tape: usize, fault: TapeFault },
     /// A file couldn't be read; nothing was written.
     ReadFault,
     /// A write failed; a front of the text was written.
@@ -101,6 +104,7 @@ impl Status {
             Status::BadWords { .. } => 2,
             Status::OutOfRange { .. } => 3,
             Status::BadModel(_) => 4,
+            Status::BadTape { .. } => 5,
             Status::ReadFault => 6,
             Status::WriteFault => 7,
             Status::Memory => 8,

@@ -1,9 +1,11 @@
 // What the keys of a document's table hold, type by type.
-ghost use Rattle.std.specs.Prelude.{◌≡◌, ◌<◌, ◌≤◌, ◌≤ℤ◌, IfSome, map, option_map, vec_len};
+ghost use Rattle.std.specs.Prelude.{◌≡◌, ◌<◌, ◌≤◌, ◌≤ℤ◌, ◌^◌, IfSome, map, unsigned_abs, option_map, vec_len};
 ghost use Rattle.toml.specs.Data.{get_member};
 ghost use Rattle.toml.specs.View.{view, array_view, table_view};
 ghost use Rattle.mj_top.specs.Document as spec;
 
+use fx_num::{Fix, Number};
+use fx_whole::{narrow, scaled};
 use toml::value::Array;
 use toml::{Table, Value};
 
@@ -15,7 +17,7 @@ pub(super) struct Bounds {
 }
 
 /// The value at a key.
-fn value_at<'a>(table: &'a Table, key: &str) -> Option<&'a Value>
+pub(super) fn value_at<'a>(table: &'a Table, key: &str) -> Option<&'a Value>
     ensures { option_map (λ v. view v.now) result ≡ get_member key.now (table_view table.now) }
 {
     table.get(key)
@@ -96,7 +98,7 @@ pub(super) fn integer_between(value: &Value, bounds: Bounds) -> Option<i64>
 }
 
 /// The whole number at an index of an array, if one within the bounds stands there.
-fn integer_item(items: &Array, index: usize, bounds: Bounds) -> Option<i64>
+pub(super) fn integer_item(items: &Array, index: usize, bounds: Bounds) -> Option<i64>
     requires { index < vec_len items.now }
     ensures value { result ≡ spec.integer_item index bounds.least bounds.most (array_view items.now) }
     ensures range { IfSome result (λ z. (bounds.least ≤ℤ z) × (z ≤ℤ bounds.most)) }
@@ -128,7 +130,7 @@ fn third_of(items: &Array, bounds: Bounds) -> Option<i64>
 }
 
 /// A number, if it is within the bounds.
-fn between(number: i64, bounds: Bounds) -> Option<i64>
+pub(super) fn between(number: i64, bounds: Bounds) -> Option<i64>
     ensures value { result ≡ spec.between bounds.least bounds.most number }
     ensures range { IfSome result (λ z. (bounds.least ≤ℤ z) × (z ≤ℤ bounds.most)) }
 {
@@ -136,6 +138,17 @@ fn between(number: i64, bounds: Bounds) -> Option<i64>
         Some(number)
     } else {
         None
+    }
+}
+
+/// A whole number at scale 32.
+pub(super) fn at_scale(number: i64) -> Fix<32>
+    requires { unsigned_abs number ≤ 2 ^ 20 }
+    ensures { result ≡ spec.at_scale number }
+{
+    Number {
+        mid: narrow(scaled(number, 32)),
+        rad: (),
     }
 }
 

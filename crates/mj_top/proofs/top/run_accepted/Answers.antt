@@ -1,19 +1,41 @@
-use Rattle.std.proofs.Common.{◌≡◌, ◌∙◌, map, string_bytes, sym, Some, option_map, ap, take}
+use Rattle.std.proofs.Common.{◌≡◌, ◌∙◌, map, string_bytes, sym, Option, option_and_then, ap, inr, IsTrue, Bool, subst, List, ℕ}
+use Rattle.mj_io.proofs.Faults.{Rose-after}
 use Rattle.mj_io.proofs.Growth.{Gives-held}
-use Rattle.mj_top.specs.Words.{model_of, step_count}
+use Rattle.mj_top.specs.Words.{step_count, tape_of}
 use Rattle.mj_top.specs.Model.{model_judged}
-use Rattle.mj_top.specs.Outcome.{with_words, with_model, with_file, outcome, model_cap}
-use Rattle.mj_top.proofs.Endings.{answers-from_either}
+use Rattle.mj_top.specs.Outcome.{Outcome, with_words, with_model, with_file, outcome, model_cap}
+use Rattle.mj_top.specs.Ends.{Answers}
+use Rattle.mj_top.proofs.Endings.{cause-from_tape, tape_cause-earlier, with_model-same}
 use Rattle.mj_top.proofs.top.run_accepted.Goals as goal
 
-pub returns-in-Ok-clause-outcome : goal.returns-in-Ok-clause-outcome
-returns-in-Ok-clause-outcome g c = λ tells.
+pub returns-in-Ok : goal.returns-in-Ok
+returns-in-Ok g c =
     let words = map string_bytes c.args.words.now in
     let held = g.C.Cabinet.holds c.args.cabinet.now in
-    let given = Gives-held (held c.model_of.result.now) model_cap c.in-Ok.bytes.items (c.in-Ok.ensures.gives tells) in
-    let bytes : c.as_slice.result.now ≡ take model_cap given.0 = c.as_slice.ensures.value ∙ given.2 in
-    let file : held (model_of words) ≡ Some given.0 = ap held (sym c.model_of.ensures) ∙ given.1 in
-    let found : outcome words held ≡ Some (with_model c.step_count.result (model_judged c.as_slice.result.now)) =
-    ap (with_words words held) c.requires ∙ ap (option_map (with_file (step_count words))) file
-    ∙ ap (λ n. Some (with_file n given.0)) (sym c.step_count.ensures) ∙ ap (λ b. Some (with_model c.step_count.result (model_judged b))) (sym bytes) in
-    answers-from_either g.S.Sink.holds g.S.Sink.faults c.args.sink.now c.run_file.new.sink (outcome words held) (with_model c.step_count.result (model_judged c.as_slice.result.now)) c.run_file.result found c.run_file.ensures
+    let held_on = g.C.Cabinet.holds c.read.new.self in
+    let reads = g.C.Cabinet.faults c.args.cabinet.now in
+    let between = g.C.Cabinet.faults c.read.new.self in
+    let reads_after = g.C.Cabinet.faults c.run_model_file.new.cabinet in
+    let writes = g.S.Sink.faults c.args.sink.now in
+    let writes_after = g.S.Sink.faults c.run_model_file.new.sink in
+    let answer = c.run_model_file.result in
+    let given = λ (tells : IsTrue (g.C.Cabinet.tells c.args.cabinet.now)). Gives-held (held c.model_of.result.now) model_cap c.in-Ok.bytes.items (c.in-Ok.ensures.gives tells) in
+    let file = λ (tells : IsTrue (g.C.Cabinet.tells c.args.cabinet.now)). ap held (sym c.model_of.ensures) ∙ (given tells).1 in
+    let bytes = λ (tells : IsTrue (g.C.Cabinet.tells c.args.cabinet.now)). c.as_slice.ensures.value ∙ (given tells).2 in
+    let lower = λ (n : List ℕ). Rose-after (reads n) (between n) (reads_after n) (c.in-Ok.ensures.later n) in
+    record {
+      outcome = λ tells.
+          let found : outcome words held ≡ with_model held_on (step_count words) (tape_of words) (model_judged c.as_slice.result.now) =
+              ap (with_words held words) c.requires ∙ ap (option_and_then (with_file held (step_count words) (tape_of words))) (file tells)
+              ∙ ap (λ b. with_model held (step_count words) (tape_of words) (model_judged b)) (sym (bytes tells))
+              ∙ sym (with_model-same held held_on (step_count words) (tape_of words) (model_judged c.as_slice.result.now) c.in-Ok.ensures.holds_on) in
+          let still = let P = λ (b : Bool). IsTrue b in subst P (sym c.in-Ok.ensures.tells_on) tells in
+          let P = λ (o : Option Outcome). Answers o answer (g.S.Sink.holds c.args.sink.now) (g.S.Sink.holds c.run_model_file.new.sink) in
+          subst P (sym found) (c.run_model_file.ensures.outcome still);
+      nothing = c.run_model_file.ensures.nothing;
+      cause = cause-from_tape words (g.C.Cabinet.tells c.args.cabinet.now) held (tape_of words) answer reads reads_after writes writes_after c.requires
+          (λ rose e. inr (rose, λ tells.
+              let accepted = c.run_model_file.ensures.accepted e in
+              ((given tells).0, file tells, (accepted.0, ap model_judged (sym (bytes tells)) ∙ accepted.1))))
+          (tape_cause-earlier (tape_of words) answer reads between reads_after writes writes_after lower c.run_model_file.ensures.cause);
+    }

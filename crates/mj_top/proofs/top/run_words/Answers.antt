@@ -7,6 +7,7 @@ use Rattle.mj_top.proofs.top.run_words.Goals as goal
 pub returns-in-Some : goal.returns-in-Some
 returns-in-Some g c =
     let words = map string_bytes c.args.words.now in
+    let tells = g.C.Cabinet.tells c.args.cabinet.now in
     let held = g.C.Cabinet.holds c.args.cabinet.now in
     let counts = g.C.Cabinet.faults c.args.cabinet.now in
     let at = c.in-Some.at in
@@ -14,21 +15,22 @@ returns-in-Some g c =
     let before = c.args.sink.now in
     let after = c.refuse_words.new.sink in
     let bad : bad_place words ≡ Some at = sym c.in-Some.ensures in
-    let cause = cause-from_refused g.S.Sink.holds g.S.Sink.faults before after words at answer counts counts bad c.refuse_words.ensures in
-    let answers = answers-from_ends g.S.Sink.holds g.S.Sink.faults before after (outcome words held) (words_refused at) answer (ap (with_words words held) bad) c.refuse_words.ensures in
+    let cause = cause-from_refused g.S.Sink.holds g.S.Sink.faults before after words tells held at answer counts counts bad c.refuse_words.ensures in
+    let answers = answers-from_ends g.S.Sink.holds g.S.Sink.faults before after (outcome words held) (words_refused at) answer (ap (with_words held words) bad) c.refuse_words.ensures in
     record {
-      outcome = λ tells. answers;
+      outcome = λ told. answers;
       nothing = nothing-from_ends g.S.Sink.holds g.S.Sink.faults before after (words_refused at) answer c.refuse_words.ensures;
       refused = λ x e.
           let same : x ≡ at = cc in
           answers-from_ends g.S.Sink.holds g.S.Sink.faults before after (Some (words_refused x)) (words_refused at) answer (ap (λ k. Some (words_refused k)) same) c.refuse_words.ensures;
       cause = cause;
-      complete = λ tells x e. completes words (outcome words held) x answer (g.S.Sink.holds before) (g.S.Sink.holds after) counts counts (g.S.Sink.faults before) (g.S.Sink.faults after) e answers cause;
+      complete = λ told x e. completes words tells held (outcome words held) x answer (g.S.Sink.holds before) (g.S.Sink.holds after) counts counts (g.S.Sink.faults before) (g.S.Sink.faults after) e answers cause;
     }
 
 pub returns-in-None-clause-complete : goal.returns-in-None-clause-complete
-returns-in-None-clause-complete g c = λ tells x e.
+returns-in-None-clause-complete g c = λ told x e.
     let words = map string_bytes c.args.words.now in
+    let held = g.C.Cabinet.holds c.args.cabinet.now in
     let done = c.run_accepted.ensures in
-    completes words (outcome words (g.C.Cabinet.holds c.args.cabinet.now)) x c.run_accepted.result (g.S.Sink.holds c.args.sink.now) (g.S.Sink.holds c.run_accepted.new.sink)
-    (g.C.Cabinet.faults c.args.cabinet.now) (g.C.Cabinet.faults c.run_accepted.new.cabinet) (g.S.Sink.faults c.args.sink.now) (g.S.Sink.faults c.run_accepted.new.sink) e (done.outcome tells) done.cause
+    completes words (g.C.Cabinet.tells c.args.cabinet.now) held (outcome words held) x c.run_accepted.result (g.S.Sink.holds c.args.sink.now) (g.S.Sink.holds c.run_accepted.new.sink)
+        (g.C.Cabinet.faults c.args.cabinet.now) (g.C.Cabinet.faults c.run_accepted.new.cabinet) (g.S.Sink.faults c.args.sink.now) (g.S.Sink.faults c.run_accepted.new.sink) e (done.outcome told) done.cause

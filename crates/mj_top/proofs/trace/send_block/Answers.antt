@@ -7,4 +7,4 @@ pub returns : goal.returns
 unfolding block_text
 returns g c =
     let lines = sent-then (sent-then (sent-then c.send_unsigned_line.ensures c.send_number_line.ensures refl) c.send_number_line-2.ensures refl) c.send_number_line-3.ensures refl in
-    sent-then (sent-then lines c.send.ensures.sent refl) c.flush.ensures.sent (sym (append-nil _))
+    sent-then (sent-then (sent-then lines c.send_wide_line.ensures refl) c.send.ensures.sent refl) c.flush.ensures.sent (sym (append-nil _))

@@ -1,0 +1,10 @@
+//! Tapes: the controls of a run, read from comma-separated values.
+#![tactic(auto)]
+
+mod judge;
+pub mod reading;
+
+pub use reading::tape;
+
+#[cfg(test)]
+mod tests;

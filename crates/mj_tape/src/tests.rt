@@ -1,0 +1,139 @@
+// What no clause says: examples, that calls can succeed, and that the reader has no error but memory.
+use super::*;
+use fx_num::Number;
+use mj_types::{Motors, SlideModel, SlideMotor, Tape, TapeFault};
+use std::alloc::{AllocError, Global};
+use std::test::Fail;
+
+fn is_shared<T: Send + Sync>() {}
+
+#[test]
+fn each_type_can_be_sent_and_shared() {
+    is_shared::<Tape>();
+    is_shared::<TapeFault>();
+}
+
+fn model(alloc: Global, motors: usize) -> Result<SlideModel, AllocError> {
+    let motor = SlideMotor {
+        gear: Number::from_raw(1),
+        ctrlrange: None,
+    };
+    Ok(SlideModel {
+        h: Number::from_raw(8_589_935),
+        gravity: Number::from_raw(0),
+        mass: 1,
+        motors: Motors::from_vec(vec![in alloc; motor; motors]?),
+    })
+}
+
+fn read(
+    alloc: Global,
+    motors: usize,
+    text: &[u8],
+    steps: u32,
+) -> Result<Result<Tape, TapeFault>, Fail> {
+    Ok(tape(alloc, &model(alloc, motors)?, text, steps, 100))
+}
+
+fn fault(alloc: Global, motors: usize, text: &[u8], steps: u32) -> Result<Option<TapeFault>, Fail> {
+    Ok(read(alloc, motors, text, steps)?.err())
+}
+
+// Whether the text is a tape of two columns with these whole numbers.
+fn holds(alloc: Global, text: &[u8], rows: usize, values: &[i64]) -> Result<bool, Fail> {
+    let tape = match read(alloc, 2, text, 0)? {
+        Ok(tape) => tape,
+        Err(_) => return Ok(false),
+    };
+    let mut raws = Vec::new(alloc);
+    for value in tape.values.as_slice() {
+        raws.push(value.mid)?;
+    }
+    let mut wanted = Vec::new(alloc);
+    for value in values {
+        wanted.push(value.wrapping_mul(1 << 32))?;
+    }
+    Ok(tape.rows == rows && tape.width == 2 && raws.as_slice() == wanted.as_slice())
+}
+
+#[test]
+fn records_are_held_row_after_row(rt: HostRuntime) -> Result<(), Fail> {
+    assert!(rt; holds(rt.alloc(), b"1,2\n3,-4\n", 2, &[1, 2, 3, -4])?);
+    assert!(rt; holds(rt.alloc(), b"1,2\n3,-4", 2, &[1, 2, 3, -4])?);
+    assert!(rt; holds(rt.alloc(), b"1,2\r\n3,-4\r\n", 2, &[1, 2, 3, -4])?);
+    assert!(rt; holds(rt.alloc(), b"\"1\",2\n3,\"-4\"\n", 2, &[1, 2, 3, -4])?);
+    assert!(rt; holds(rt.alloc(), b"", 0, &[])?);
+    Ok(())
+}
+
+#[test]
+fn faults_come_in_order(rt: HostRuntime) -> Result<(), Fail> {
+    assert_eq!(rt;
+        fault(rt.alloc(), 2, b"1,2\n3,4\n", 3)?,
+        Some(TapeFault::Short(2))
+    );
+    assert_eq!(rt;
+        fault(rt.alloc(), 2, b"1,2\n3,4\n5,x\n", 3)?,
+        Some(TapeFault::BadNumber(3, 2))
+    );
+    assert_eq!(rt;
+        fault(rt.alloc(), 2, b"1,2\n3,4\n5,x\n", 9)?,
+        Some(TapeFault::BadNumber(3, 2))
+    );
+    assert_eq!(rt;
+        fault(rt.alloc(), 2, b"1,2,3\n", 1)?,
+        Some(TapeFault::Width(1))
+    );
+    assert_eq!(rt;
+        fault(rt.alloc(), 2, b"1,2\n3\n", 1)?,
+        Some(TapeFault::Width(2))
+    );
+    assert_eq!(rt;
+        fault(rt.alloc(), 2, b"a,b\n1,2\n", 1)?,
+        Some(TapeFault::BadNumber(1, 1))
+    );
+    Ok(())
+}
+
+#[test]
+fn a_model_without_motors_takes_no_record(rt: HostRuntime) -> Result<(), Fail> {
+    assert_eq!(rt; fault(rt.alloc(), 0, b"1\n", 0)?, Some(TapeFault::Width(1)));
+    assert_eq!(rt; fault(rt.alloc(), 0, b"", 0)?, None);
+    Ok(())
+}
+
+#[test]
+fn room_is_counted(rt: HostRuntime) -> Result<(), Fail> {
+    let model = model(rt.alloc(), 2)?;
+    let text = b"1,2\n3,4\n5,6\n";
+    assert_eq!(rt; tape(rt.alloc(), &model, text, 1, 6).err(), None);
+    assert_eq!(rt;
+        tape(rt.alloc(), &model, text, 1, 5).err(),
+        Some(TapeFault::TooLarge)
+    );
+    assert_eq!(rt;
+        tape(rt.alloc(), &model, b"1,2\n3,4\n5,x\n", 1, 4).err(),
+        Some(TapeFault::TooLarge)
+    );
+    assert_eq!(rt;
+        tape(rt.alloc(), &model, b"1,2\n3,x\n5,6\n", 1, 4).err(),
+        Some(TapeFault::BadNumber(2, 2))
+    );
+    Ok(())
+}
+
+#[test]
+fn a_control_is_at_most_two_to_the_twenty(rt: HostRuntime) -> Result<(), Fail> {
+    // 2^52 raw is 1048576, and one more is 2.3283e-10 above
+    assert_eq!(rt; fault(rt.alloc(), 1, b"1048576\n", 1)?, None);
+    assert_eq!(rt;
+        fault(rt.alloc(), 1, b"1048576.00000000023283\n", 1)?,
+        Some(TapeFault::BadNumber(1, 1))
+    );
+    assert_eq!(rt; fault(rt.alloc(), 1, b"-1048576\n", 1)?, None);
+    assert_eq!(rt;
+        fault(rt.alloc(), 1, b"-1048576.00000000023283\n", 1)?,
+        Some(TapeFault::BadNumber(1, 1))
+    );
+    Ok(())
+}
