@@ -45,9 +45,10 @@ module _ (model : SlideModel) (force : ℤ) (state : State) (a v q : Number (Uni
       → (first_out model force state ≡ None) × (let m : Motion = record { after = record { q = q; v = v }; accel = a; residual = r } in m ≡ made model force state)
   moved e farther near =
       let there = farther-is q.mid farther in
-      let near_after : unsigned_abs (position_after model force state) ≤ motion_limit = rw (sym there) near in
-      (passed None (check-within kind.Position 1 motion_limit (position_after model force state) near_after),
-       λ t. record { after = record { q = plain (there t); v = plain (velocity t) }; accel = plain (accelerated t); residual = e t })
+      let near_after : unsigned_abs (position_after model force state) ≤ motion_limit = rw (sym there) near in (
+        passed None (check-within kind.Position 1 motion_limit (position_after model force state) near_after),
+        λ t. record { after = record { q = plain (there t); v = plain (velocity t) }; accel = plain (accelerated t); residual = e t },
+      )
 
   -- a step whose position leaves its range
   pub moved_out : motion_limit < unsigned_abs (state.q.mid +ℤ scaled model.h.mid v.mid) → first_out model force state ≡ Some (record { kind = kind.Position; index = 1 })

@@ -56,8 +56,8 @@ model-err fault judged other (inr same) = sym same
 pub lawful-gears : (model : SlideModel) → IsLawful model → (j : ℕ) → unsigned_abs (motor model.motors j).gear.mid ≤ 1024 * 2 ^ 32
 lawful-gears model lawful j =
     elim (cases_lt j (length model.motors)) [
-      inl within ↦ (All-get_or IsLawfulMotor model.motors j (record { gear = plain (pos 0); ctrlrange = None }) within lawful.motors).gear
-    | inr past ↦
-        let nothing : motor model.motors j ≡ record { gear = plain (pos 0); ctrlrange = None } = get_or_past model.motors j (record { gear = plain (pos 0); ctrlrange = None }) past in
-        rw nothing (omega arith)
+      | inl within ↦ (All-get_or IsLawfulMotor model.motors j (record { gear = plain (pos 0); ctrlrange = None }) within lawful.motors).gear
+      | inr past ↦
+          let nothing : motor model.motors j ≡ record { gear = plain (pos 0); ctrlrange = None } = get_or_past model.motors j (record { gear = plain (pos 0); ctrlrange = None }) past in
+          rw nothing (omega arith)
     ]

@@ -141,7 +141,7 @@ pub fn step(
     requires holds { (j : ℕ) → j < length model.now.motors → Holds tape.now k j }
     ensures { MatchResult result
         (λ made. (first_out model.now (applied model.now (control (values_of tape.now) k)) state.now ≡ None)
-            × (made ≡ made_lem model.now (applied model.now (control (values_of tape.now) k)) state.now))
+        × (made ≡ made_lem model.now (applied model.now (control (values_of tape.now) k)) state.now))
         (λ out. first_out model.now (applied model.now (control (values_of tape.now) k)) state.now ≡ Some out) }
 {
     match force_within(model, tape, k) {

@@ -85,7 +85,10 @@ pub enum Status {
     /// The model is refused.
     BadModel(ModelFault),
     /// A tape is refused: which one, from 1, and why.
-    BadTape { tape: usize, fault: TapeFault },
+    BadTape {
+        tape: usize,
+        fault: TapeFault,
+    },
     /// A file couldn't be read; nothing was written.
     ReadFault,
     /// A write failed; a front of the text was written.

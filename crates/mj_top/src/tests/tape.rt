@@ -1,5 +1,5 @@
 // Runs with a tape, with their exact bytes.
-use super::{cabinet_of, contains, sink_of, tell, tell_with, words_of, SLIDE, TRACE};
+use super::{SLIDE, TRACE, cabinet_of, contains, sink_of, tell, tell_with, words_of};
 use crate::run_words;
 use std::alloc::{AllocError, Global};
 use std::test::Fail;
@@ -71,11 +71,19 @@ fn a_force_out_of_range_comes_first(rt: HostRuntime) -> Result<(), Fail> {
 #[test]
 fn tapes_are_refused(rt: HostRuntime) -> Result<(), Fail> {
     for (tape, steps, line) in [
-        (b"1,2\n3,4\n".as_slice(), "3", b"refused tape 1 Short 2\n".as_slice()),
+        (
+            b"1,2\n3,4\n".as_slice(),
+            "3",
+            b"refused tape 1 Short 2\n".as_slice(),
+        ),
         (b"1,2\n3,4\n5,x\n", "3", b"refused tape 1 BadNumber 3 2\n"),
         (b"1,2\n3,4\n5,x\n", "9", b"refused tape 1 BadNumber 3 2\n"),
         (b"1,2,3\n", "3", b"refused tape 1 Width 1\n"),
-        (b"first,second\n1,2\n", "1", b"refused tape 1 BadNumber 1 1\n"),
+        (
+            b"first,second\n1,2\n",
+            "1",
+            b"refused tape 1 BadNumber 1 1\n",
+        ),
         (b"", "1", b"refused tape 1 Short 0\n"),
     ] {
         let told = tell_with(
@@ -151,7 +159,10 @@ fn motors_of_another_form_are_refused(rt: HostRuntime) -> Result<(), Fail> {
         let text = with_more(alloc, more)?;
         let told = tell_with(&rt, alloc, text.as_str().as_bytes(), b"x\n", &RUN_TAPE)?;
         assert_eq!(rt; told.code, 4);
-        assert_eq!(rt; told.text.as_slice(), b"refused model NotBuilt\n".as_slice());
+        assert_eq!(rt;
+            told.text.as_slice(),
+            b"refused model NotBuilt\n".as_slice()
+        );
     }
     Ok(())
 }

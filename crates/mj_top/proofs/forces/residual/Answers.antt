@@ -16,7 +16,7 @@ returns c =
     let accel : SFits w64 c.args.accel.now.mid = search rules in
     let load : SFits w128 c.args.load.now = fits_signed_from_abs w128 c.args.load.now (omega arith) in
     to_z-of_z fits ∙ composed c.args.mass.now c.args.accel.now.mid c.args.load.now c.product.result c.difference-miss.result c.wide_scaled.result c.size.result
-        (c.product.ensures.value ∙ ap₂ (λ x y. x *ℤ y) (to_z-of_z mass ∙ c.from.ensures) (to_z-of_z accel))
-        (c.difference-miss.ensures.value ∙ ap₂ (λ x y. x -ℤ y) (to_z-of_z moved) (to_z-of_z load))
-        (c.size.ensures.value ∙ ap unsigned_abs (to_z-of_z miss))
-        (c.wide_scaled.ensures.value ∙ ap (λ x. x *ℤ pos (2 ^ 40)) (to_z_pos w128 c.size.result (omega (arith, ints))))
+    (c.product.ensures.value ∙ ap₂ (λ x y. x *ℤ y) (to_z-of_z mass ∙ c.from.ensures) (to_z-of_z accel))
+    (c.difference-miss.ensures.value ∙ ap₂ (λ x y. x -ℤ y) (to_z-of_z moved) (to_z-of_z load))
+    (c.size.ensures.value ∙ ap unsigned_abs (to_z-of_z miss))
+    (c.wide_scaled.ensures.value ∙ ap (λ x. x *ℤ pos (2 ^ 40)) (to_z_pos w128 c.size.result (omega (arith, ints))))

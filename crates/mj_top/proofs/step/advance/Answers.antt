@@ -15,9 +15,9 @@ returns-in-Some-advanced c =
     let accelerated : a.mid ≡ accel model force = c.acceleration-accel.ensures.value ∙ ap (λ l. nearest l (pos model.mass)) loaded in
     let fits : SFits w128 c.residual.result = record { sfits = c.residual.type_inv } in
     let left : to_z w128 (of_z w128 c.residual.result) ≡ residual model force =
-        to_z-of_z fits ∙ c.residual.ensures ∙ ap₂ (λ x l. pos (unsigned_abs (pos model.mass *ℤ x -ℤ l) * 2 ^ 40)) accelerated loaded in
+    to_z-of_z fits ∙ c.residual.ensures ∙ ap₂ (λ x l. pos (unsigned_abs (pos model.mass *ℤ x -ℤ l) * 2 ^ 40)) accelerated loaded in
     moved model force c.args.state.now a c.in-Some.v c.in-Some-advanced.q (to_z w128 (of_z w128 c.residual.result)) c.requires.small accelerated
-        c.in-Some.ensures.0 c.in-Some.ensures.1 left c.in-Some-advanced.ensures.0 c.in-Some-advanced.ensures.1
+    c.in-Some.ensures.0 c.in-Some.ensures.1 left c.in-Some-advanced.ensures.0 c.in-Some-advanced.ensures.1
 
 pub returns-in-None-advanced : goal.returns-in-None-advanced
 returns-in-None-advanced c =

@@ -26,16 +26,19 @@ returns-in-Ok g c =
     record {
       outcome = λ tells.
           let found : outcome words held ≡ with_model held_on (step_count words) (tape_of words) (model_judged c.as_slice.result.now) =
-              ap (with_words held words) c.requires ∙ ap (option_and_then (with_file held (step_count words) (tape_of words))) (file tells)
-              ∙ ap (λ b. with_model held (step_count words) (tape_of words) (model_judged b)) (sym (bytes tells))
-              ∙ sym (with_model-same held held_on (step_count words) (tape_of words) (model_judged c.as_slice.result.now) c.in-Ok.ensures.holds_on) in
+          ap (with_words held words) c.requires ∙ ap (option_and_then (with_file held (step_count words) (tape_of words))) (file tells)
+          ∙ ap (λ b. with_model held (step_count words) (tape_of words) (model_judged b)) (sym (bytes tells))
+          ∙ sym (with_model-same held held_on (step_count words) (tape_of words) (model_judged c.as_slice.result.now) c.in-Ok.ensures.holds_on) in
           let still = let P = λ (b : Bool). IsTrue b in subst P (sym c.in-Ok.ensures.tells_on) tells in
           let P = λ (o : Option Outcome). Answers o answer (g.S.Sink.holds c.args.sink.now) (g.S.Sink.holds c.run_model_file.new.sink) in
           subst P (sym found) (c.run_model_file.ensures.outcome still);
       nothing = c.run_model_file.ensures.nothing;
       cause = cause-from_tape words (g.C.Cabinet.tells c.args.cabinet.now) held (tape_of words) answer reads reads_after writes writes_after c.requires
-          (λ rose e. inr (rose, λ tells.
-              let accepted = c.run_model_file.ensures.accepted e in
-              ((given tells).0, file tells, (accepted.0, ap model_judged (sym (bytes tells)) ∙ accepted.1))))
+          (λ rose e. inr (
+            rose,
+            λ tells.
+                let accepted = c.run_model_file.ensures.accepted e in
+                ((given tells).0, file tells, (accepted.0, ap model_judged (sym (bytes tells)) ∙ accepted.1)),
+          ))
           (tape_cause-earlier (tape_of words) answer reads between reads_after writes writes_after lower c.run_model_file.ensures.cause);
     }

@@ -16,7 +16,7 @@ returns-in-None g c =
     let model = c.args.model.now in
     let outcome = ran c.step_count.result model (control None) in
     let found : with_tape_name held (step_count words) model (tape_of words) ≡ Some outcome =
-        ap (with_tape_name held (step_count words) model) (sym c.in-None.ensures) ∙ ap (λ n. Some (ran n model (control None))) (sym c.step_count.ensures) in
+    ap (with_tape_name held (step_count words) model) (sym c.in-None.ensures) ∙ ap (λ n. Some (ran n model (control None))) (sym c.step_count.ensures) in
     record {
       outcome = λ tells. answers-from_ends g.S.Sink.holds g.S.Sink.faults c.args.sink.now c.run_model.new.sink (with_tape_name held (step_count words) model (tape_of words)) outcome c.run_model.result found c.run_model.ensures;
       nothing = nothing-from_ends g.S.Sink.holds g.S.Sink.faults c.args.sink.now c.run_model.new.sink outcome c.run_model.result c.run_model.ensures;
@@ -35,9 +35,9 @@ returns-in-Ok g c =
           let given = Gives-held (held c.in-Some.name.now) tape_cap c.in-Ok.bytes.items (c.in-Ok.ensures.gives tells) in
           let bytes : c.as_slice.result.now ≡ take tape_cap given.0 = c.as_slice.ensures.value ∙ given.2 in
           let found : with_tape_name held (step_count words) model (tape_of words) ≡ Some outcome =
-              ap (with_tape_name held (step_count words) model) (sym c.in-Some.ensures) ∙ ap (option_map (with_tape_file (step_count words) model)) given.1
-              ∙ ap (λ n. Some (with_tape_file n model given.0)) (sym c.step_count-in-Ok.ensures)
-              ∙ ap (λ b. Some (with_tape c.step_count-in-Ok.result model (judged (length model.motors) c.step_count-in-Ok.result tape_room b))) (sym bytes) in
+          ap (with_tape_name held (step_count words) model) (sym c.in-Some.ensures) ∙ ap (option_map (with_tape_file (step_count words) model)) given.1
+          ∙ ap (λ n. Some (with_tape_file n model given.0)) (sym c.step_count-in-Ok.ensures)
+          ∙ ap (λ b. Some (with_tape c.step_count-in-Ok.result model (judged (length model.motors) c.step_count-in-Ok.result tape_room b))) (sym bytes) in
           answers-from_either g.S.Sink.holds g.S.Sink.faults c.args.sink.now c.run_tape_file.new.sink (with_tape_name held (step_count words) model (tape_of words)) outcome c.run_tape_file.result found c.run_tape_file.ensures;
       nothing = nothing-from_either g.S.Sink.holds g.S.Sink.faults c.args.sink.now c.run_tape_file.new.sink outcome c.run_tape_file.result c.run_tape_file.ensures;
       cause = tape_cause-from_either g.S.Sink.holds g.S.Sink.faults c.args.sink.now c.run_tape_file.new.sink (tape_of words) outcome c.run_tape_file.result

@@ -33,4 +33,4 @@ returns-in-None-clause-complete g c = λ told x e.
     let held = g.C.Cabinet.holds c.args.cabinet.now in
     let done = c.run_accepted.ensures in
     completes words (g.C.Cabinet.tells c.args.cabinet.now) held (outcome words held) x c.run_accepted.result (g.S.Sink.holds c.args.sink.now) (g.S.Sink.holds c.run_accepted.new.sink)
-        (g.C.Cabinet.faults c.args.cabinet.now) (g.C.Cabinet.faults c.run_accepted.new.cabinet) (g.S.Sink.faults c.args.sink.now) (g.S.Sink.faults c.run_accepted.new.sink) e (done.outcome told) done.cause
+    (g.C.Cabinet.faults c.args.cabinet.now) (g.C.Cabinet.faults c.run_accepted.new.cabinet) (g.S.Sink.faults c.args.sink.now) (g.S.Sink.faults c.run_accepted.new.sink) e (done.outcome told) done.cause
