@@ -6,7 +6,8 @@ use Rattle.mj_types.specs.Control.{Control}
 use Rattle.mj_types.specs.declared.tape.Tape.{Tape}
 use Rattle.mj_types.specs.declared.tape.TapeFault.{TapeFault}
 use Rattle.mj_types.specs.declared.tape.TapeFault.TheVariants.{TooLarge, Short}
-use Rattle.mj_tape.specs.Judging.{judged, unless_short, records_of, first_fault, record_fault, or_first, values_of, raws, seen, file_limit}
+use Rattle.fx_whole.specs.First.{or_first}
+use Rattle.mj_tape.specs.Judging.{judged, unless_short, records_of, first_fault, record_fault, values_of, raws, seen, file_limit}
 
 -- ---- an accepted tape has a value for each record and motor
 

@@ -3,6 +3,7 @@ use Rattle.std.specs.Prelude.{◌≡◌, ◌⊎◌, ℕ, suc, ◌*◌, ℤ, pos,
 use Rattle.std.specs.Option.{unwrap_or}
 use Rattle.std.specs.List.{flat_map}
 use Rattle.csv.specs.Reading.{default_config, records, strip_bom}
+use Rattle.fx_whole.specs.First.{or_first}
 use Rattle.fx_text.specs.Decimal.{decimal}
 use Rattle.fx_text.specs.declared.decimal.DecimalFault.{DecimalFault}
 use Rattle.mj_types.specs.Control.{Control, control_limit}
@@ -34,11 +35,6 @@ record_fault width room k fields =
     if not (length fields == width) then Some (Width k)
     else if nat_lt room (k * width) then Some TooLarge
     else bad_field k 1 fields
-
--- the earlier fault
-abbrev pub or_first : Option TapeFault → Option TapeFault → Option TapeFault
-or_first (Some fault) later = Some fault
-or_first None later = later
 
 -- the first fault of these records, of which the first is record k
 abbrev pub first_fault : ℕ → ℕ → ℕ → List (List (List ℕ)) → Option TapeFault
