@@ -16,6 +16,9 @@ const STRONG: &str =
 const TWO_MOTORS: &str =
     "[option]\ntimestep = \"0.25\"\ngravity = [0, 0, 0]\n[[body]]\nname = \"a\"\ninertial = { mass = 1 }\n[[body.joint]]\nname = \"z\"\ntype = \"slide\"\n[[motor]]\njoint = \"z\"\n[[motor]]\njoint = \"z\"\n";
 
+const THREE_KILOGRAMS: &str =
+    "[option]\ntimestep = \"0.25\"\ngravity = [0, 0, 0]\n[[body]]\nname = \"a\"\ninertial = { mass = 3 }\n[[body.joint]]\nname = \"z\"\ntype = \"slide\"\n[[motor]]\njoint = \"z\"\n";
+
 const DRIVEN_TRACE: &str =
     "trace 1 nq=1 nv=1 steps=3\nstep 1\nq 536870912\nv 2147483648\na 8589934592\nresidual 0\nradius 0 0\nrows 0 idle 0\nstop none\ncost 0 0\nstep 2\nq 1342177280\nv 3221225472\na 4294967296\nresidual 0\nradius 0 0\nrows 0 idle 0\nstop none\ncost 0 0\nstep 3\nq 1610612736\nv 1073741824\na -8589934592\nresidual 0\nradius 0 0\nrows 0 idle 0\nstop none\ncost 0 0\nend done\n";
 
@@ -177,5 +180,25 @@ fn a_time_step_may_have_an_exponent(rt: HostRuntime) -> Result<(), Fail> {
     )?;
     assert_eq!(rt; told.code, 0);
     assert_eq!(rt; told.text.as_slice(), TRACE.as_bytes());
+    Ok(())
+}
+
+// A force of 1 on 3 kg: 2^32 over 3 is 1431655765 and a third, so three times it is one unit short.
+#[test]
+fn a_residual_is_what_rounding_leaves(rt: HostRuntime) -> Result<(), Fail> {
+    let told = tell_with(
+        &rt,
+        rt.alloc(),
+        THREE_KILOGRAMS.as_bytes(),
+        b"1\n",
+        &["run", "--model", "m", "--steps", "1", "--tape", "t"],
+    )?;
+    assert_eq!(rt; told.code, 0);
+    assert!(rt;
+        contains(
+            told.text.as_slice(),
+            b"q 89478485\nv 357913941\na 1431655765\nresidual 1099511627776\n"
+        )
+    );
     Ok(())
 }
