@@ -52,6 +52,26 @@ first_stop n m f e h g =
 pub first_here : {F : Type 0} → (n m : ℕ) (f : ℕ → Option F) (e : F) → n < m → first_to n f ≡ None → f n ≡ Some e → first_to m f ≡ Some e
 first_here n m f e h z g = first_stop (suc n) m f e h (or_pass (first_to n f) (f n) z ∙ g)
 
+-- the same two as clauses say it: a call's `refusal_of result` stands at the left, which is `Some e` where it refuses and `None` where not
+-- a refusal at n is the first
+pub stop_here : {F : Type 0} → (n m : ℕ) (f : ℕ → Option F) (e : F) → n < m → first_to n f ≡ None → Some e ≡ f n → Some e ≡ first_to m f
+stop_here n m f e h z g = sym (first_here n m f e h z (sym g))
+
+-- none at n: none yet
+pub pass_more : {F : Type 0} → (n : ℕ) (f : ℕ → Option F) → first_to n f ≡ None → None ≡ f n → first_to (n + 1) f ≡ None
+pass_more n f z g = first_more n f ∙ or_pass (first_to n f) (f n) z ∙ sym g
+
+-- no refusal of a call that has n turns
+pub pass_all : {F : Type 0} → (n m : ℕ) (f : ℕ → Option F) → n ≡ m → first_to n f ≡ None → None ≡ first_to m f
+pass_all n m f e z = sym z ∙ ap (λ (k : ℕ). first_to k f) e
+
+-- of two calls in a row
+pub stop_first : {F : Type 0} → (a b : Option F) (e : F) → Some e ≡ a → Some e ≡ or_first a b
+stop_first a b e h = ap (λ x. or_first x b) h
+
+pub pass_first : {F : Type 0} → (a b r : Option F) → None ≡ a → r ≡ b → r ≡ or_first a b
+pass_first a b r h g = g ∙ ap (λ x. or_first x b) h
+
 -- none there, if and only if each is absent
 pub first_none : {F : Type 0} → (n : ℕ) (f : ℕ → Option F) → (first_to n f ≡ None) ↔ ((k : ℕ) → k < n → f k ≡ None)
 first_none n f = (each n, all n)

@@ -36,26 +36,56 @@
 --   sum_ℕ_to-more, -ext, -add, -scale_left, -scale_right, -const, -mono, -bounded, -le, -term
 --   when-true, -false, -zero, -add, -sub, -neg, -mul_left, -mul_right, -and, -swap, -sum, -nonneg, -size
 --
+-- AddingLaws, of `sum_in`, `when_in` and `IsAdding` (specs/Adding): of anything that is added up
+--   of any adding          sum_in-more, -ext;  sum_in-map: a map that keeps sums of two goes through
+--                          sum_in-holds: what passes on with each term, as a bound that grows;  sum_in-both: of two sums side by side
+--   with IsAdding          sum_in-none, -add, -swap, -split, -first, -past, -single;  empty_plus, plus_across
+--   when_in-true, -false, -empty, -and, -swap, -map;  with IsAdding when_in-plus, -sum
+--   integers-is_adding, naturals-is_adding;  sum_in-integers, sum_in-naturals: these are sum_to and sum_ℕ_to
+--
+-- CountLaws, of `count_to` (specs/Counting)
+--   count_to-yes, -no      one more place, at n + 1;  count_to-ext, -mono, -below, -size, -none, -all
+--   sum_in-listed, sum_to-listed, first_to-listed  from the places that pass a test to the list that names them
+--
 -- FirstLaws, of `or_first` and `first_to` (specs/First)
 --   or_pass, or_stop, or_none, or_assoc, or_both, or_which
 --   first_more             one more, at n + 1
 --   first_none             None, if and only if each is absent
 --   first_some             what is found is at the least place that has one
 --   first_stop, first_here, first_ext, first_split
+--   stop_here, pass_more, pass_all                 in a loop, with the call's `refusal_of result` at the left, as clauses have it
+--   stop_first, pass_first                         the same of two calls in a row
+--
+-- JoinedLaws, of `joined` (specs/Joined)
+--   joined-none, -more, -ext, -length, -within, -split, -empty, -holds, -all
+--   grow-none, grow-more, grow-within              a loop that adds part after part to a list
+--
+-- TableLaws, of `value`, `down` and `sum_after` (specs/Tables)
+--   value-zero, -suc       the table filled upwards;  made-is: a place that was made is the table's
+--   value-next             value-suc, where `next n` is known to read the places up to n alone
+--   down-is                the table filled downwards, where `step` looks later;  down-past: the rest of it
+--   filled_down-here, -other, -is, -none           the loop that fills it: the new place, the others, those reached, those not yet
+--   sum_after-ext          sums of later places look later;  sum_after-more, -none
 --
 -- LeastLaws, of `IsLeast` and `ceil_div` (specs/Least)
 --   least-unique, ceil_div-least, ceil_div-past
 --
--- EntryLaws, of `at` and `flat_at` (specs/Entries)
+-- EntryLaws, of `at`, `flat_at` and `below` (specs/Entries)
+--   below-within, -past;  below-is: a list of n entries is what it holds below n, and none past it
+--   put-keeps, put-more    what holds of each entry below i holds below i + 1 after a write at i
 --   at-set_same, -set_other, -past, -take, -drop, -append_left, -append_right, -push, -zeros, -ext;  flat_at-set_same, -set_other
 --
 -- Powers, of 2
 --   pow-double, pow-split, pow-add_ℤ, pow_positive (std has pow-add, pow_pos, pow_below, pow_mono)
+pub mod AddingLaws
+pub mod CountLaws
 pub mod EntryLaws
 pub mod FirstLaws
+pub mod JoinedLaws
 pub mod LeastLaws
 pub mod NearestLaws
 pub mod Powers
 pub mod Ring
 pub mod RootLaws
 pub mod SumLaws
+pub mod TableLaws

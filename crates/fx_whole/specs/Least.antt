@@ -1,4 +1,5 @@
--- The least natural number of which something holds, as a relation, and the quotient rounded up, which is one.
+-- The least natural number of which something holds, as a relation, and the quotient rounded up,
+-- which is one.
 use Rattle.std.specs.Prelude.{ℕ, ◌+◌, ◌-◌, ◌/◌, ◌≤◌}
 
 pub record IsLeast (P : ℕ → Type 0) (n : ℕ) : Type 0 where

@@ -1,6 +1,10 @@
+pub mod Adding
+pub mod Counting
 pub mod Entries
 pub mod First
+pub mod Joined
 pub mod Least
 pub mod Nearest
 pub mod Roots
 pub mod Sums
+pub mod Tables

@@ -1,4 +1,4 @@
--- The whole square root: the greatest whole number whose square is at most n. The usual definition.
+-- The integer square root: the greatest integer whose square is at most n. The usual definition.
 use Rattle.std.specs.Prelude.{ℕ, zero, suc, ◌*◌, ℤ, pos, negsuc, ◌+ℤ◌, ◌*ℤ◌, ◌≤ℤ◌, ◌<ℤ◌, cond, nat_le}
 
 -- the greatest s up to a bound with s * s <= n

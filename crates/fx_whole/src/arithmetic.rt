@@ -1,5 +1,5 @@
 // Leaf arithmetic: one operation a function, each with the exact value and its size.
-ghost use Rattle.std.specs.Prelude.{◌≡◌, pos, ◌+◌, ◌*◌, ◌^◌, ◌<◌, ◌≤◌, ◌+ℤ◌, ◌-ℤ◌, ◌*ℤ◌, ◌≤ℤ◌, ◌↔◌, neg_ℤ, IsTrue, unsigned_abs};
+ghost use Rattle.std.specs.Prelude.{◌≡◌, pos, ◌+◌, ◌*◌, ◌%◌, ◌^◌, ◌<◌, ◌≤◌, ◌+ℤ◌, ◌-ℤ◌, ◌*ℤ◌, ◌≤ℤ◌, ◌↔◌, neg_ℤ, IsTrue, unsigned_abs};
 
 /// `a * b`, which always fits.
 pub fn product(a: i64, b: i64) -> i128
@@ -105,4 +105,11 @@ pub fn wide_scaled(n: i128, shift: u32) -> i128
     ensures size { unsigned_abs result ≡ unsigned_abs n * 2 ^ shift }
 {
     wide_product(n, power(shift))
+}
+
+/// The low 64 bits.
+pub fn low_half(n: u128) -> u64
+    ensures { result ≡ n % 2 ^ 64 }
+{
+    (n & 0xFFFF_FFFF_FFFF_FFFF) as u64
 }

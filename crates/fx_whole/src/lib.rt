@@ -1,7 +1,8 @@
-//! Whole numbers: rounding, and the arithmetic that every layer above is written in.
+//! Integers: rounding, roots, and the arithmetic that every layer above is written in.
 #![tactic(auto)]
 
 pub mod arithmetic;
+mod reciprocal;
 pub mod roots;
 pub mod rounding;
 #[cfg(test)]
@@ -11,5 +12,6 @@ pub use arithmetic::{
     add_product, difference, is_within, narrow, negated, power, product, scaled, size, sum,
     wide_product, wide_scaled,
 };
+pub use reciprocal::{Divisor, nearest_by};
 pub use roots::isqrt;
 pub use rounding::{nearest, nearest_shift};

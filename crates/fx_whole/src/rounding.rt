@@ -1,18 +1,18 @@
-// Rounding to the nearest whole number.
+// Rounding to the nearest integer.
 ghost use Rattle.std.specs.Prelude.{◌≡◌, pos, ◌+◌, ◌-◌, ◌*◌, ◌/◌, ◌^◌, ◌<◌, ◌≤◌, ◌<ℤ◌, unsigned_abs};
-ghost use Rattle.fx_whole.specs.Nearest.{nearest as nearest_lem, with_sign, IsNearest};
+ghost use Rattle.fx_whole.specs.Nearest as spec;
 
 /// `size` with the sign of `of`. The least i128 is its own negative, so it comes out right too.
-fn signed(of: i128, size: u128) -> i128
+pub fn with_sign(of: i128, size: u128) -> i128
     requires { size ≤ unsigned_abs of }
-    ensures { result ≡ with_sign of size }
+    ensures { result ≡ spec.with_sign of size }
 {
     let plain = size.cast_signed();
     if of < 0 { plain.wrapping_neg() } else { plain }
 }
 
 /// The size of a rounded quotient, from the sizes of its parts: `(2 n + (d - 1)) / (2 d)`.
-fn nearest_size(n: u128, d: u128) -> u128
+pub fn nearest_size(n: u128, d: u128) -> u128
     requires positive { 0 < d }
     requires small { n ≤ 2 ^ 127 }
     ensures value { result ≡ (2 * n + (d - 1)) / (2 * d) }
@@ -27,7 +27,7 @@ fn nearest_size(n: u128, d: u128) -> u128
 }
 
 /// `nearest_size` for `d = 2^shift`: half of `d - 1` is added and the low bits are dropped.
-fn shifted_size(n: u128, shift: u32) -> u128
+fn nearest_size_shift(n: u128, shift: u32) -> u128
     requires in_width { shift ≤ 126 }
     requires small { n ≤ 2 ^ 127 }
     ensures value { result ≡ (2 * n + (2 ^ shift - 1)) / (2 * 2 ^ shift) }
@@ -36,20 +36,21 @@ fn shifted_size(n: u128, shift: u32) -> u128
     (n + ((divisor - 1) >> 1)) >> shift
 }
 
-/// The whole number nearest to `n / d`; of two that are equally near, the one nearer to zero.
+/// The integer nearest to `n / d`; of two that are equally near, the one nearer to zero.
 pub fn nearest(n: i128, d: i128) -> i128
     requires { pos 0 <ℤ d }
-    ensures formula { result ≡ nearest_lem n d }
-    ensures property { IsNearest n d result }
+    ensures formula { result ≡ spec.nearest n d }
+    ensures property { spec.IsNearest n d result }
 {
-    signed(n, nearest_size(n.unsigned_abs(), d.unsigned_abs()))
+    with_sign(n, nearest_size(n.unsigned_abs(), d.unsigned_abs()))
 }
 
-/// The whole number nearest to `n / 2^shift`, a tie to the one nearer to zero: `nearest` with no division.
+/// The integer nearest to `n / 2^shift`, a tie to the one nearer to zero: `nearest` with no
+/// division.
 pub fn nearest_shift(n: i128, shift: u32) -> i128
     requires { shift ≤ 126 }
-    ensures formula { result ≡ nearest_lem n (pos (2 ^ shift)) }
-    ensures property { IsNearest n (pos (2 ^ shift)) result }
+    ensures formula { result ≡ spec.nearest n (pos (2 ^ shift)) }
+    ensures property { spec.IsNearest n (pos (2 ^ shift)) result }
 {
-    signed(n, shifted_size(n.unsigned_abs(), shift))
+    with_sign(n, nearest_size_shift(n.unsigned_abs(), shift))
 }

@@ -1,7 +1,7 @@
 // Expected values are worked by hand.
 use crate::{
-    add_product, difference, is_within, isqrt, narrow, nearest, nearest_shift, negated, power,
-    product, scaled, size, sum, wide_product, wide_scaled,
+    Divisor, add_product, difference, is_within, isqrt, narrow, nearest, nearest_by, nearest_shift,
+    negated, power, product, scaled, size, sum, wide_product, wide_scaled,
 };
 
 #[test]
@@ -28,6 +28,27 @@ fn rounds_to_the_nearest(rt: HostRuntime) {
 }
 
 #[test]
+fn rounds_by_a_divisor(rt: HostRuntime) {
+    for (n, d, want) in [
+        (1i128, 2i128, 0i128),
+        (3, 2, 1),
+        (-7, 2, -3),
+        (8, 3, 3),
+        (i128::MIN, 1, i128::MIN),
+        (5 << 72, 1 << 73, 2),
+        (7 << 72, 1 << 73, 3),
+        (-((7 << 72) + 1), 1 << 73, -4),
+        (10_000_000_000_000_000, 2_500_000_000, 4_000_000),
+        (10_000_000_001_250_000, 2_500_000_000, 4_000_000),
+        (10_000_000_001_250_000_001, 2_500_000_000, 4_000_000_001),
+    ] {
+        if d > 0 && d <= 1 << 73 {
+            assert_eq!(rt; nearest_by(n, &Divisor::new(d)), want);
+        }
+    }
+}
+
+#[test]
 fn takes_roots(rt: HostRuntime) {
     for (n, want) in [
         (0i128, 0i128),
@@ -36,7 +57,10 @@ fn takes_roots(rt: HostRuntime) {
         (4, 2),
         (15, 3),
         (16, 4),
+        (10_000_000_000_000_000_000_000, 100_000_000_000),
+        (9_999_999_999_999_999_999_999, 99_999_999_999),
         (1 << 126, 1 << 63),
+        ((1 << 126) - 1, (1 << 63) - 1),
     ] {
         if n >= 0 {
             assert_eq!(rt; isqrt(n), want);

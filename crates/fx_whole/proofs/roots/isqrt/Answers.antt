@@ -13,3 +13,8 @@ pub returns-then-is_root-clause-value : goal.returns-then-is_root-clause-value
 returns-then-is_root-clause-value c =
     let root : IsRoot c.args.n (to_z w128 (of_z w128 c.from.result)) = search rules in
     isqrt-unique c.args.n (to_z w128 (of_z w128 c.from.result)) root
+
+pub returns-then-is_root-2-clause-value : goal.returns-then-is_root-2-clause-value
+returns-then-is_root-2-clause-value c =
+    let root : IsRoot c.args.n (to_z w128 (of_z w128 c.from-then-is_root-2.result)) = search rules in
+    isqrt-unique c.args.n (to_z w128 (of_z w128 c.from-then-is_root-2.result)) root

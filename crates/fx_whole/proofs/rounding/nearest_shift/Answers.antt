@@ -9,10 +9,10 @@ pub returns-clause-formula : goal.returns-clause-formula
 returns-clause-formula c =
     let positive : pos 0 <ℤ pos (2 ^ c.args.shift) = omega (arith, ints, pow_pos c.args.shift) in
     let n : SFits w128 c.args.n = c.ranges.n in
-    let r : SFits w128 c.signed.result = search rules in
+    let r : SFits w128 c.with_sign.result = search rules in
     let a = simp to_z-of_z at c.unsigned_abs.ensures.value in
-    let s = simp to_z-of_z at c.signed.ensures in
-    rw to_z-of_z (nearest-from_sizes c.args.n (pos (2 ^ c.args.shift)) c.signed.result c.unsigned_abs.result (2 ^ c.args.shift) c.shifted_size.result positive a refl c.shifted_size.ensures.value s)
+    let s = simp to_z-of_z at c.with_sign.ensures in
+    rw to_z-of_z (nearest-from_sizes c.args.n (pos (2 ^ c.args.shift)) c.with_sign.result c.unsigned_abs.result (2 ^ c.args.shift) c.nearest_size_shift.result positive a refl c.nearest_size_shift.ensures.value s)
 
 pub returns-clause-property : goal.returns-clause-property
 returns-clause-property c =
