@@ -1,0 +1,12 @@
+//! Lists that contracts see as lists: of any type, of bytes, and within a room taken ahead.
+#![tactic(auto)]
+
+pub mod array;
+pub mod listing;
+#[cfg(test)]
+mod tests;
+pub mod text;
+
+pub use array::Array;
+pub use listing::Listing;
+pub use text::Text;
