@@ -1,4 +1,5 @@
 pub mod CoverLaws
+pub mod DyadicLaws
 pub mod QuotientLaws
-pub mod RootCovers
 pub mod RadiusLaws
+pub mod RootCovers

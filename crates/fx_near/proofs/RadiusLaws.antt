@@ -1,14 +1,18 @@
 -- How radii are computed: by halves that fit, and divisions rounded up.
-use Rattle.std.proofs.Common.{◌≡◌, ℕ, ◌+◌, ◌-◌, ◌*◌, ◌/◌, ◌%◌, ◌^◌, ◌<◌, ◌≤◌, min, bit_and, ap, ◌∙◌, arith, pow_pos, pow_mono, mul-le-mul, lt_of_mul-lt-mul_right, div-add-mod', ℤ, pos, ◌-ℤ◌, ◌*ℤ◌, unsigned_abs, SFits}
+use Rattle.std.proofs.Common.{◌≡◌, ℕ, ◌+◌, ◌-◌, ◌*◌, ◌/◌, ◌%◌, ◌^◌, ◌<◌, ◌≤◌, min, bit_and, ap, ◌∙◌, arith, pow_pos, pow_mono, mul-le-mul, lt_of_mul-lt-mul_right, div-add-mod', mod-lt, ℤ, pos, unsigned_abs, SFits}
 use Rattle.std.proofs.lemmas.Int.{ints}
 use mir.Syntax.{w64}
-use Rattle.fx_near.specs.Widths.{root_mid, root_radius}
 use Rattle.std.proofs.lemmas.Nat.{one_shl, shl_whole, and_mask, and_le_r}
 use Rattle.std.proofs.lemmas.Grind.{div_ceil_times}
 use Rattle.std.proofs.Math.Nat.{mul-add-div_right}
 use Rattle.std.specs.Int.{div_ceil}
 use Rattle.fx_whole.specs.Least.{IsLeast, ceil_div}
-use Rattle.fx_whole.proofs.LeastLaws.{ceil_div-least}
+use Rattle.fx_whole.specs.Nearest.{nearest, IsNearest}
+use Rattle.fx_whole.proofs.LeastLaws.{ceil_div-least, ceil_div-past}
+use Rattle.fx_whole.proofs.NearestLaws.{nearest-is_nearest}
+use Rattle.fx_whole.proofs.Powers.{pow_positive}
+use Rattle.fx_num.specs.Settled.{rounding_loss}
+use Rattle.fx_near.specs.Widths.{settled_radius}
 
 -- std's quotient rounded up is the one of the clauses
 pub div_ceil-is : (a b : ℕ) → 0 < b → div_ceil a b ≡ ceil_div a b
@@ -59,9 +63,20 @@ scaled_small a w f h k e =
     let power : 2 ^ f ≤ 2 ^ 40 = pow_mono k in
     rw e (omega (arith, mul-le-mul most power))
 
-by_root : (x y z : ℕ) → ceil_div (x + z * 0 + y) (z - 0) ≡ ceil_div (x + y) z
-by_root x y z = let sum : x + z * 0 + y ≡ x + y = omega arith in let whole : z - 0 ≡ z = omega arith in rw (sum, whole)
+-- ---- how large radii are
+-- a rounding loses at most half of a unit
+pub loss-half : (sum : ℤ) (s : ℕ) → 2 * rounding_loss sum s ≤ 2 ^ s
+loss-half sum s = let near : IsNearest sum (pos (2 ^ s)) (nearest sum (pos (2 ^ s))) = nearest-is_nearest sum (pos (2 ^ s)) (pow_positive s) in omega (arith, near.close)
 
--- a root's radius is that of a quotient by the root, which is exact
-pub root_radius-is : (f : ℕ) (a : ℤ) (ra : ℕ) (w m : ℤ) (r : ℕ) → w ≡ a *ℤ pos (2 ^ f) → m ≡ root_mid f a → r ≡ ceil_div (ra * 2 ^ f + unsigned_abs m * 0 + unsigned_abs (w -ℤ m *ℤ m)) (unsigned_abs m - 0) → r ≡ root_radius f a ra
-root_radius-is f a ra w m r e g h = h ∙ by_root (ra * 2 ^ f) (unsigned_abs (w -ℤ m *ℤ m)) (unsigned_abs m) ∙ rw (e, g)
+-- a width of at most n units gives a radius of at most n + 1
+pub radius-le : (w n : ℕ) (sum : ℤ) (s : ℕ) → w ≤ n * 2 ^ s → settled_radius w (rounding_loss sum s) s ≤ n + 1
+radius-le w n sum s h = bounded (ceil_div (w + rounding_loss sum s) (2 ^ s)) w (rounding_loss sum s) n (2 ^ s) (ceil_div-past (w + rounding_loss sum s) (2 ^ s) (pow_pos s)) (loss-half sum s) h
+  where
+    bounded : (r w l n d : ℕ) → r * d < w + l + d → 2 * l ≤ d → w ≤ n * d → r ≤ n + 1
+    bounded r w l n d p q h = let below : r * d < (n + 2) * d = omega arith in let lt : r < n + 2 = lt_of_mul-lt-mul_right d below in omega arith
+
+-- it is no more than 2 above the width in units
+pub radius-quotient : (w : ℕ) (sum : ℤ) (s : ℕ) → settled_radius w (rounding_loss sum s) s ≤ w / 2 ^ s + 2
+radius-quotient w sum s =
+    let up : w ≤ (w / 2 ^ s + 1) * 2 ^ s = omega (arith, div-add-mod' w (2 ^ s), mod-lt w (pow_pos s)) in
+    omega (arith, radius-le w (w / 2 ^ s + 1) sum s up)

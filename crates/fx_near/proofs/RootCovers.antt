@@ -10,7 +10,7 @@ use Rattle.fx_near.specs.Covers.{Covers, CoversRoot}
 use Rattle.fx_near.proofs.CoverLaws.{ceil_div_holds}
 
 -- the root of what is at least 1
-pub root_positive : (n m : ℤ) → pos 0 <ℤ n → IsRoot n m → pos 0 <ℤ m
+root_positive : (n m : ℤ) → pos 0 <ℤ n → IsRoot n m → pos 0 <ℤ m
 root_positive n m h r =
     by_lt_z (pos 0) m
     (λ p. p)
@@ -80,13 +80,18 @@ root_bounds n a m ra f d radius hm b p k =
     regroup n s = simp ring
 
 -- a number above zero, scaled
-pub scaled_positive : (a : ℤ) (ra f : ℕ) → pos ra <ℤ a → pos 0 <ℤ (a *ℤ pos (2 ^ f))
+scaled_positive : (a : ℤ) (ra f : ℕ) → pos ra <ℤ a → pos 0 <ℤ (a *ℤ pos (2 ^ f))
 scaled_positive a ra f h = mul_pos a (pos (2 ^ f)) (omega (arith, ints)) (pow_positive f)
+
+pub root_mid-positive : (a : ℤ) (ra f : ℕ) → pos ra <ℤ a → pos 0 <ℤ root_mid f a
+root_mid-positive a ra f h =
+    let whole : pos 0 <ℤ (a *ℤ pos (2 ^ f)) = scaled_positive a ra f h in
+    root_positive (a *ℤ pos (2 ^ f)) (root_mid f a) whole (isqrt-root (a *ℤ pos (2 ^ f)) (omega (arith, ints)))
 
 pub root-covers : (a n : ℤ) (ra f d : ℕ) → pos ra <ℤ a → Covers a ra f n d → CoversRoot (root_mid f a) (root_radius f a ra) f n d
 root-covers a n ra f d h p =
     let whole : pos 0 <ℤ (a *ℤ pos (2 ^ f)) = scaled_positive a ra f h in
     let root : IsRoot (a *ℤ pos (2 ^ f)) (root_mid f a) = isqrt-root (a *ℤ pos (2 ^ f)) (omega (arith, ints)) in
-    let positive : pos 0 <ℤ root_mid f a = root_positive (a *ℤ pos (2 ^ f)) (root_mid f a) whole root in
+    let positive : pos 0 <ℤ root_mid f a = root_mid-positive a ra f h in
     root_bounds n a (root_mid f a) ra f d (root_radius f a ra) positive root.below p
     (ceil_div_holds (ra * 2 ^ f + unsigned_abs (a *ℤ pos (2 ^ f) -ℤ root_mid f a *ℤ root_mid f a)) (unsigned_abs (root_mid f a)) (omega (arith, ints)))

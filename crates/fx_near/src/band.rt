@@ -1,17 +1,20 @@
 // The kind of number that carries a radius.
-ghost use Rattle.std.specs.Prelude.{◌≡◌, ◌+◌, ◌-◌, ◌*◌, ◌^◌, ◌<◌, ◌≤◌, min, unsigned_abs, IfOk, IfErr};
+ghost use Rattle.std.specs.Prelude.{◌≡◌, ◌+◌, ◌-◌, ◌*◌, ◌^◌, ◌<◌, ◌≤◌, min, unsigned_abs, IfOk};
 ghost use Rattle.fx_whole.specs.Least.{ceil_div};
 ghost use Rattle.fx_num.specs.Radii.{radius_limit};
+ghost use Rattle.fx_num.specs.Refusals.{past};
+ghost use Rattle.fx_whole.specs.First.{refusal_of};
 ghost use Rattle.fx_near.specs.Covers.{Covers};
 ghost use Rattle.fx_near.specs.Widths.{settled_radius};
 
 use fx_num::{Carry, Fix, Num, Number, Over};
+use num_traits::ToPrimitive;
 
 // The greatest radius that a number may have.
 const RADIUS_LIMIT: u128 = 1 << 40;
 
 /// The kind of number that carries a radius, in units of its scale: the exact number lies within that
-/// of the middle.
+/// of the midpoint.
 #[derive(Clone, Copy, Debug, PartialEq, Eq)]
 pub struct Band;
 
@@ -46,7 +49,7 @@ impl Carry for Band {
     }
 
     fn cut(w: u128, lost: i128, shift: u32) -> Result<u64, Over> {
-        within_limit(shifted_up(w, lost.unsigned_abs(), shift))
+        narrow_radius(&shifted_up(w, lost.unsigned_abs(), shift))
     }
 }
 
@@ -86,15 +89,15 @@ fn shifted_up(a: u128, b: u128, shift: u32) -> u128
     (a >> shift).saturating_add(b >> shift).saturating_add(low)
 }
 
-/// `radius` in 64 bits, or `Over::Radius` exactly where it passes 2^40.
-pub(crate) fn within_limit(radius: u128) -> Result<u64, Over>
-    ensures rad { IfOk result (λ r. r ≡ radius) }
+/// `radius` in 64 bits. `Over::Radius` exactly where it passes 2^40.
+pub(crate) fn narrow_radius(radius: &u128) -> Result<u64, Over>
+    ensures rad { IfOk result (λ r. r ≡ radius.now) }
     ensures small { IfOk result (λ r. r ≤ radius_limit) }
-    ensures refusal { IfErr result (λ e. e ≡ Over.Radius) }
-    ensures past { IfErr result (λ _. radius_limit < radius) }
+    ensures first { refusal_of result ≡ past radius_limit radius.now Over.Radius }
 {
-    if radius <= RADIUS_LIMIT {
-        Ok(radius as u64)
+    // the limit is tested first, so that the compiler drops the test inside of `to_u64`
+    if *radius <= RADIUS_LIMIT {
+        radius.to_u64().ok_or(Over::Radius)
     } else {
         Err(Over::Radius)
     }

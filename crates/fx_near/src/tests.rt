@@ -2,7 +2,8 @@ ghost use Rattle.std.specs.Prelude.{◌≡◌};
 
 use super::*;
 use fx_num::{
-    Fix, Number, Over, Sum, join_order, mul_into, none, same_settled, same_sum, settle, widened,
+    Fix, Number, Over, Plain, Sum, join_either, join_grouped, mul_alike, mul_into, none, settle,
+    settle_alike, widened,
 };
 
 fn is_shared<T: Send + Sync>(_value: &T) -> bool {
@@ -62,11 +63,26 @@ fn takes_roots(rt: HostRuntime) {
 }
 
 #[test]
-fn laws_are_met_by_calls(rt: HostRuntime) {
-    join_order::<Band>(1, 2, 3);
-    let sum = none::<Band, 3>();
-    same_sum::<Band, Band, 3>(sum, sum);
-    same_settled::<Band, Band, 0>(whole(1, 0), whole(1, 0));
+fn kinds_agree_on_midpoints(rt: HostRuntime) {
+    assert_eq!(rt; join_either::<Band>(1, 2), (3, 3));
+    assert_eq!(rt; join_grouped::<Band>(1, 2, 3), (6, 6));
+    let mut near = none::<Band, 0>();
+    let mut plain = none::<Plain, 0>();
+    let three = Fix::<0>::from_raw(3);
+    mul_alike::<Band, Plain, 0, 0, 0>(
+        (whole(3, 1), three),
+        (whole(3, 0), three),
+        &mut near,
+        &mut plain,
+    );
+    assert_eq!(rt; near.rad, 3);
+    let settled = settle_alike::<Band, Plain, 0, 0>(near, plain, 9);
+    assert_eq!(rt; settled.0, Ok(whole(9, 3)));
+    assert_eq!(rt; settled.1, Ok(Fix::<0>::from_raw(9)));
+}
+
+#[test]
+fn laws_are_met_by_calls(_rt: HostRuntime) {
     radius_is_least();
     exact_covers();
     product_covers();
@@ -74,6 +90,11 @@ fn laws_are_met_by_calls(rt: HostRuntime) {
     settled_covers();
     quotient_covers();
     root_covers();
+}
+
+#[test]
+fn can_be_sent_and_shared(rt: HostRuntime) {
+    let sum = none::<Band, 3>();
     assert!(rt; is_shared(&sum));
     assert!(rt; is_shared(&whole(1, 0)));
     assert!(rt; is_shared(&Band));

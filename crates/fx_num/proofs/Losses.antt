@@ -1,5 +1,5 @@
 -- What is lost where a sum is rounded: it is formed from sizes, and it fits.
-use Rattle.std.proofs.Common.{◌≡◌, ℕ, ◌+◌, ◌-◌, ◌*◌, ◌/◌, ◌%◌, ◌^◌, ◌<◌, ◌≤◌, ℤ, pos, negsuc, to_z, ◌-ℤ◌, ◌*ℤ◌, ◌<ℤ◌, unsigned_abs, sym, ap, ◌∙◌, subst, arith, pow_mono}
+use Rattle.std.proofs.Common.{◌≡◌, ℕ, ◌+◌, ◌-◌, ◌*◌, ◌/◌, ◌%◌, ◌^◌, ◌<◌, ◌≤◌, ℤ, pos, negsuc, to_z, ◌-ℤ◌, ◌*ℤ◌, ◌<ℤ◌, unsigned_abs, ap, ◌∙◌, arith, pow_mono}
 use Rattle.std.proofs.lemmas.Int.{ints, to_z_pos}
 use Rattle.std.specs.Int.{abs_diff}
 use mir.Syntax.{w128}
@@ -7,10 +7,6 @@ use Rattle.fx_whole.specs.Nearest.{with_sign, nearest, IsNearest}
 use Rattle.fx_whole.proofs.NearestLaws.{nearest-at, nearest-size_product, nearest-is_nearest, with_sign-size}
 use Rattle.fx_whole.proofs.Powers.{pow_positive}
 use Rattle.fx_whole.proofs.Ring.{neg_ℤ-*ℤ}
-use Rattle.fx_num.specs.Radii.{radius_limit}
-use Rattle.fx_num.specs.Settled.{Passes}
-use Rattle.fx_num.specs.declared.carry.Over.{Over}
-use Rattle.fx_num.specs.declared.carry.Over.TheVariants.{Radius}
 
 -- a rounded product and what was rounded are on one side of zero, so their sizes may be subtracted
 signed_loss : (n : ℤ) (q d : ℕ) → abs_diff (q * d) (unsigned_abs n) ≡ unsigned_abs (n -ℤ with_sign n q *ℤ pos d)
@@ -47,6 +43,3 @@ lost_is n v l s a b w h e f g k m z =
     let e2 : w ≡ unsigned_abs (n -ℤ v *ℤ pos (2 ^ s)) = e1 ∙ rw (f, g) (loss_from_sizes n v (2 ^ s) (pow_positive s) e) in
     let small : w < 2 ^ 127 = rw e2 (loss_small n v s h e) in
     z ∙ to_z_pos w128 w small ∙ ap pos e2
-
-pub passes_radius : (e : Over) (limit : ℕ) (value : ℤ) (radius : ℕ) → e ≡ Radius → unsigned_abs value ≤ limit → radius_limit < radius → Passes e limit value radius
-passes_radius e limit value radius p h k = subst (λ (x : Over). Passes x limit value radius) (sym p) (h, k)

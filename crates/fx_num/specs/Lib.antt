@@ -1,3 +1,5 @@
+pub use Rattle.fx_whole.specs.First as First
 pub use Rattle.fx_whole.specs.Nearest as Nearest
 pub mod Radii
+pub mod Refusals
 pub mod Settled

@@ -1,7 +1,9 @@
--- What a sum of products becomes when it is rounded to a lower scale, and when it is refused.
-use Rattle.std.specs.Prelude.{ℕ, ◌<◌, ◌≤◌, ◌^◌, ℤ, pos, ◌+ℤ◌, ◌-ℤ◌, ◌*ℤ◌, unsigned_abs}
+-- What a sum of products becomes when it is rounded to a lower scale, and when it is refused. A rule of this project's own.
+use Rattle.std.specs.Prelude.{ℕ, ◌^◌, ℤ, pos, ◌+ℤ◌, ◌-ℤ◌, ◌*ℤ◌, unsigned_abs, Option}
+use Rattle.fx_whole.specs.First.{or_first}
 use Rattle.fx_whole.specs.Nearest.{nearest}
 use Rattle.fx_num.specs.Radii.{radius_limit}
+use Rattle.fx_num.specs.Refusals.{past}
 use Rattle.fx_num.specs.declared.carry.Over.{Over}
 use Rattle.fx_num.specs.declared.carry.Over.TheVariants.{Value, Radius}
 
@@ -17,7 +19,10 @@ settled_mid sum shift = nearest sum (pos (2 ^ shift))
 abbrev pub rounding_loss : ℤ → ℕ → ℕ
 rounding_loss sum shift = unsigned_abs (sum -ℤ settled_mid sum shift *ℤ pos (2 ^ shift))
 
--- which limit a number passes: the value's first, and the radius's where the value is within its own
-abbrev pub Passes : Over → ℕ → ℤ → ℕ → Type 0
-Passes Value limit value radius = limit < unsigned_abs value
-Passes Radius limit value radius = (unsigned_abs value ≤ limit) × (radius_limit < radius)
+-- whether a value passes its limit
+abbrev pub over_value : ℕ → ℤ → Option Over
+over_value limit value = past limit (unsigned_abs value) Value
+
+-- which limit a number with a radius passes: the value's first, and then the radius's
+abbrev pub over : ℕ → ℤ → ℕ → Option Over
+over limit value radius = or_first (over_value limit value) (past radius_limit radius Radius)

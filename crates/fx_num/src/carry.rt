@@ -1,6 +1,8 @@
 // The kinds of number: what a number carries beside its middle.
-ghost use Rattle.std.specs.Prelude.{◌≡◌, ◌+◌, ◌^◌, ◌<◌, ◌≤◌, ℕ, pos, ◌≤ℤ◌, unsigned_abs, MatchResult};
+ghost use Rattle.std.specs.Prelude.{◌≡◌, ◌+◌, ◌^◌, ◌<◌, ◌≤◌, ℕ, pos, ◌≤ℤ◌, unsigned_abs, IfOk};
 ghost use Rattle.fx_num.specs.Radii.{product_width, radius_limit};
+ghost use Rattle.fx_num.specs.Refusals.{past};
+ghost use Rattle.fx_whole.specs.First.{refusal_of};
 
 /// Why a number isn't given: its value or its radius passes the limit.
 #[derive(Clone, Copy, Debug, PartialEq, Eq)]
@@ -9,7 +11,7 @@ pub enum Over {
     Radius,
 }
 
-/// A kind of number. A number has a middle, and `Rad` says how far it may be off: `Plain` carries
+/// A kind of number. A number has a midpoint, and `Rad` says how far it may be off: `Plain` carries
 /// nothing, another kind a radius. `Wide` is the width of an exact sum of products.
 ///
 /// `width` and `wide_width` are these as whole numbers at least zero, and `settled width lost shift`
@@ -48,9 +50,11 @@ pub trait Carry {
     fn cut(w: Self::Wide, lost: i128, shift: u32) -> Result<Self::Rad, Over>
         requires lost { pos 0 ≤ℤ lost }
         requires shift { shift ≤ 126 }
-        ensures { MatchResult result
-            (λ r. (width r ≡ settled (wide_width w) (unsigned_abs lost) shift) × (settled (wide_width w) (unsigned_abs lost) shift ≤ radius_limit))
-            (λ e. (e ≡ Over.Radius) × (radius_limit < settled (wide_width w) (unsigned_abs lost) shift)) };
+        ensures rad { IfOk result (λ r.
+            width r ≡ settled (wide_width w) (unsigned_abs lost) shift) }
+        ensures small { IfOk result (λ r. width r ≤ radius_limit) }
+        ensures first { refusal_of result
+            ≡ past radius_limit (settled (wide_width w) (unsigned_abs lost) shift) Over.Radius };
 }
 
 /// The kind that carries no radius: every width is 0.

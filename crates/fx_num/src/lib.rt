@@ -4,6 +4,7 @@
 pub mod carry;
 pub mod divide;
 pub mod laws;
+pub mod limits;
 pub mod number;
 pub mod product;
 pub mod settling;
@@ -11,10 +12,11 @@ pub mod settling;
 pub use carry::{Carry, Over, Plain};
 pub use divide::div_nearest;
 pub use fx_whole::{isqrt, nearest};
-pub use laws::{join_order, same_settled, same_sum};
+pub use laws::{join_either, join_grouped, mul_alike, settle_alike};
+pub use limits::narrow_within;
 pub use number::{Fix, Num, Number, Sum, Total, Wide};
 pub use product::{mul_into, none, widened};
-pub use settling::settle;
+pub use settling::{settle, settle_plain, times};
 
 #[cfg(test)]
 mod tests;

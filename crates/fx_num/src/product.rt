@@ -40,10 +40,13 @@ pub fn mul_into<K: Carry, const A: u32, const B: u32, const P: u32>(
 )
     requires scale { P ≡ A + B }
     requires fits { FitsSigned w128 (product_sum acc.old.mid a.mid b.mid) }
-    requires width { K.wide_width acc.old.rad + product_width a.mid (K.width a.rad) b.mid (K.width b.rad) < 2 ^ 128 }
+    requires width { K.wide_width acc.old.rad
+        + product_width a.mid (K.width a.rad) b.mid (K.width b.rad) < 2 ^ 128 }
     ensures mid { acc.new.mid ≡ product_sum acc.old.mid a.mid b.mid }
-    ensures size { unsigned_abs acc.new.mid ≤ unsigned_abs acc.old.mid + unsigned_abs a.mid * unsigned_abs b.mid }
-    ensures rad { K.wide_width acc.new.rad ≡ K.wide_width acc.old.rad + product_width a.mid (K.width a.rad) b.mid (K.width b.rad) }
+    ensures size { unsigned_abs acc.new.mid
+        ≤ unsigned_abs acc.old.mid + unsigned_abs a.mid * unsigned_abs b.mid }
+    ensures rad { K.wide_width acc.new.rad ≡ K.wide_width acc.old.rad
+        + product_width a.mid (K.width a.rad) b.mid (K.width b.rad) }
 {
     acc.mid += product(a.mid, b.mid);
     acc.rad = K::join(acc.rad, K::product(a.mid, a.rad, i128::from(b.mid), b.rad));

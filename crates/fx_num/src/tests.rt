@@ -1,7 +1,11 @@
+ghost use Rattle.std.specs.Prelude.{◌≡◌};
+
 use super::*;
 
 // A sum at scale 64.
-fn sum_of(mid: i128) -> Sum<Plain, 64> {
+fn sum_of(mid: i128) -> Sum<Plain, 64>
+    ensures { result.mid ≡ mid }
+{
     Total { mid, rad: () }
 }
 
@@ -25,6 +29,10 @@ fn settles_a_tie_toward_zero(rt: HostRuntime) {
         settle::<Plain, 64, 32>(sum_of(tie + 1), 2),
         Ok(Fix::<32>::from_raw(2))
     );
+    assert_eq!(rt;
+        settle_plain::<64, 32>(&sum_of(-tie), 1),
+        Ok(Fix::<32>::from_raw(-1))
+    );
 }
 
 #[test]
@@ -38,12 +46,21 @@ fn adds_a_product(rt: HostRuntime) {
 }
 
 #[test]
+fn multiplies_once_rounded(rt: HostRuntime) {
+    let half = Fix::<32>::from_raw(1 << 31);
+    let three = Fix::<32>::from_raw(3);
+    assert_eq!(rt; times(&three, &half, 1), Ok(Fix::<32>::from_raw(1)));
+    assert_eq!(rt; times(&three, &half, 0), Err(Over::Value));
+}
+
+#[test]
 fn divides_to_the_nearest(rt: HostRuntime) {
     assert_eq!(rt; div_nearest(7, 2, 3), Ok(3));
     assert_eq!(rt; div_nearest(-7, 2, 3), Ok(-3));
     assert_eq!(rt; div_nearest(8, 3, 3), Ok(3));
     assert_eq!(rt; div_nearest(8, 2, 3), Err(Over::Value));
     assert_eq!(rt; div_nearest(-8, 2, 3), Err(Over::Value));
+    assert_eq!(rt; div_nearest(i128::MIN, 1, i64::MAX), Err(Over::Value));
 }
 
 #[test]
@@ -56,9 +73,14 @@ fn can_be_sent_and_shared(rt: HostRuntime) {
 }
 
 #[test]
-fn laws_are_met_by_calls(_rt: HostRuntime) {
-    let sum = sum_of(1);
-    join_order::<Plain>((), (), ());
-    same_sum::<Plain, Plain, 64>(sum, sum);
-    same_settled::<Plain, Plain, 2>(Fix::<2>::from_raw(1), Fix::<2>::from_raw(1));
+fn laws_name_the_calls(rt: HostRuntime) {
+    join_either::<Plain>((), ());
+    join_grouped::<Plain>((), (), ());
+    let mut first = sum_of(1);
+    let mut second = sum_of(1);
+    let two = Fix::<32>::from_raw(2);
+    mul_alike::<Plain, Plain, 32, 32, 64>((two, two), (two, two), &mut first, &mut second);
+    assert_eq!(rt; first.mid, 5);
+    let settled = settle_alike::<Plain, Plain, 64, 64>(first, second, 5);
+    assert_eq!(rt; settled.0, settled.1);
 }
