@@ -1,9 +1,12 @@
 -- How large products of vectors can be, from bounds on their coordinates and on the radii.
-use Rattle.std.proofs.Common.{ℕ, ◌+◌, ◌*◌, ◌≤◌, ℤ, ◌+ℤ◌, ◌-ℤ◌, ◌*ℤ◌, unsigned_abs, arith, mul-le-mul}
+use Rattle.std.proofs.Common.{◌≡◌, ℕ, ◌+◌, ◌*◌, ◌^◌, ◌≤◌, ℤ, pos, ◌+ℤ◌, ◌-ℤ◌, ◌*ℤ◌, unsigned_abs, arith, mul-le-mul, add-le-add, le_trans, refl}
 use Rattle.std.proofs.lemmas.Int.{unsigned_abs-mul}
-use Rattle.fx_whole.proofs.Ring.{abs-add, abs-sub}
+use Rattle.fx_whole.proofs.Ring.{abs-add, abs-sub, abs_mul_le}
+use Rattle.fx_whole.proofs.NearestLaws.{nearest-within}
+use Rattle.fx_num.specs.Settled.{settled_mid}
+use Rattle.fx_vec.specs.Settling.{stretched, moved, moved_one, along}
 use Rattle.fx_num.specs.Radii.{product_width}
-use Rattle.fx_vec.specs.Vectors.{Triple, dot, cross}
+use Rattle.fx_vec.specs.Vectors.{Triple, dot, cross, plus, minus}
 use Rattle.fx_vec.specs.Sizes.{Within, Below, dot_size, cross_size}
 use Rattle.fx_vec.specs.Widths.{dot_width, cross_width}
 
@@ -72,3 +75,56 @@ cross_width-le a ra b rb m n r s h k i j = record {
   y = two_more_le (product_width a.z ra.z b.x rb.x) (product_width a.x ra.x b.z rb.z) (m * s + n * r + r * s) (product_width-le a.z b.x ra.z rb.x m n r s h.z k.x i.z j.x) (product_width-le a.x b.z ra.x rb.z m n r s h.x k.z i.x j.z);
   z = two_more_le (product_width a.x ra.x b.y rb.y) (product_width a.y ra.y b.x rb.x) (m * s + n * r + r * s) (product_width-le a.x b.y ra.x rb.y m n r s h.x k.y i.x j.y) (product_width-le a.y b.x ra.y rb.x m n r s h.y k.x i.y j.x);
 }
+
+-- ---- plain vectors, added and moved
+pub minus-within : (a b : Triple ℤ) (m n : ℕ) → Within a m → Within b n → Within (minus a b) (m + n)
+minus-within a b m n h k = record {
+  x = le_trans (abs-sub a.x b.x) (add-le-add h.x k.x);
+  y = le_trans (abs-sub a.y b.y) (add-le-add h.y k.y);
+  z = le_trans (abs-sub a.z b.z) (add-le-add h.z k.z);
+}
+
+pub plus-within : (a b : Triple ℤ) (m n : ℕ) → Within a m → Within b n → Within (plus a b) (m + n)
+plus-within a b m n h k = record {
+  x = le_trans (abs-add a.x b.x) (add-le-add h.x k.x);
+  y = le_trans (abs-add a.y b.y) (add-le-add h.y k.y);
+  z = le_trans (abs-add a.z b.z) (add-le-add h.z k.z);
+}
+
+-- n k at scale 32, for a direction n
+stretched_one-le : (n k : ℤ) (h t u : ℕ) → unsigned_abs n ≤ t * u → unsigned_abs k ≤ h → u ≡ 2 ^ 32 → unsigned_abs (settled_mid (n *ℤ k) 32) ≤ t * h
+stretched_one-le n k h t u i j e =
+    let p : unsigned_abs (n *ℤ k) ≤ t * u * h = abs_mul_le n k (t * u) h i j in
+    nearest-within (n *ℤ k) (pos (2 ^ 32)) (t * h) (rw (← e) (omega (arith, p)))
+
+pub stretched-within : (n : Triple ℤ) (k : ℤ) (h t : ℕ) → Within n (t * 2 ^ 32) → unsigned_abs k ≤ h → Within (stretched n k) (t * h)
+stretched-within n k h t i j = record {
+  x = stretched_one-le n.x k h t (2 ^ 32) i.x j refl;
+  y = stretched_one-le n.y k h t (2 ^ 32) i.y j refl;
+  z = stretched_one-le n.z k h t (2 ^ 32) i.z j refl;
+}
+
+moved_one-le : (c n k : ℤ) (m h t u : ℕ) → unsigned_abs c ≤ m → unsigned_abs n ≤ t * u → unsigned_abs k ≤ h → u ≡ 2 ^ 32 → unsigned_abs (moved_one c n k) ≤ m + t * h
+moved_one-le c n k m h t u i j l e =
+    let p : unsigned_abs (c *ℤ pos u) ≤ m * u = abs_mul_le c (pos u) m u i (omega arith) in
+    let q : unsigned_abs (n *ℤ k) ≤ t * u * h = abs_mul_le n k (t * u) h j l in
+    let s : unsigned_abs (c *ℤ pos u +ℤ n *ℤ k) ≤ (m + t * h) * u = omega (arith, abs-add (c *ℤ pos u) (n *ℤ k), p, q) in
+    nearest-within (c *ℤ pos (2 ^ 32) +ℤ n *ℤ k) (pos (2 ^ 32)) (m + t * h) (rw e at s)
+
+pub moved-within : (c n : Triple ℤ) (k : ℤ) (m h t : ℕ) → Within c m → Within n (t * 2 ^ 32) → unsigned_abs k ≤ h → Within (moved c n k) (m + t * h)
+moved-within c n k m h t i j l = record {
+  x = moved_one-le c.x n.x k m h t (2 ^ 32) i.x j.x l refl;
+  y = moved_one-le c.y n.y k m h t (2 ^ 32) i.y j.y l refl;
+  z = moved_one-le c.z n.z k m h t (2 ^ 32) i.z j.z l refl;
+}
+
+pub within-le : (a : Triple ℤ) (m n : ℕ) → Within a m → m ≤ n → Within a n
+within-le a m n h k = record { x = le_trans h.x k; y = le_trans h.y k; z = le_trans h.z k }
+
+pub along-le : (a d : Triple ℤ) (h t : ℕ) → Within a (t * 2 ^ 32) → Within d h → unsigned_abs (along a d) ≤ 3 * t * h
+along-le a d h t i j = one a d h t (2 ^ 32) i j refl
+  where
+    one : (a d : Triple ℤ) (h t u : ℕ) → Within a (t * u) → Within d h → u ≡ 2 ^ 32 → unsigned_abs (along a d) ≤ 3 * t * h
+    one a d h t u i j e =
+        let p : unsigned_abs (dot a d) ≤ 3 * (t * u * h) = le_trans (dot-size a d) (dot_size-le a d (t * u) h i j) in
+        nearest-within (dot a d) (pos (2 ^ 32)) (3 * t * h) (rw (← e) (omega (arith, p)))

@@ -1,2 +1,4 @@
+pub mod Same
 pub mod Fitting
 pub mod Bounds
+pub mod SumLaws

@@ -1,5 +1,5 @@
--- The sum of two inertias about one point, number by number. The usual definition.
-use Rattle.std.specs.Prelude.{◌≡◌, ◌+ℤ◌, FitsSigned}
+-- Where the sum of two inertias fits its numbers.
+use Rattle.std.specs.Prelude.{◌+ℤ◌, FitsSigned}
 use mir.Syntax.{w128}
 use Rattle.fx_vec.specs.declared.inertia.Inertia10.{Inertia10}
 
@@ -15,16 +15,3 @@ pub record SumFits (a b : Inertia10) : Type 0 where
   pub my : FitsSigned w128 (a.my +ℤ b.my)
   pub mz : FitsSigned w128 (a.mz +ℤ b.mz)
   pub mass : FitsSigned w128 (a.mass +ℤ b.mass)
-
--- sum is a + b
-pub record IsSum (a b sum : Inertia10) : Type 0 where
-  pub xx : sum.xx ≡ a.xx +ℤ b.xx
-  pub xy : sum.xy ≡ a.xy +ℤ b.xy
-  pub xz : sum.xz ≡ a.xz +ℤ b.xz
-  pub yy : sum.yy ≡ a.yy +ℤ b.yy
-  pub yz : sum.yz ≡ a.yz +ℤ b.yz
-  pub zz : sum.zz ≡ a.zz +ℤ b.zz
-  pub mx : sum.mx ≡ a.mx +ℤ b.mx
-  pub my : sum.my ≡ a.my +ℤ b.my
-  pub mz : sum.mz ≡ a.mz +ℤ b.mz
-  pub mass : sum.mass ≡ a.mass +ℤ b.mass

@@ -4,5 +4,8 @@ pub mod Spatial
 pub mod Sizes
 pub mod Widths
 pub mod Views
-pub mod Adding
+pub mod Room
 pub mod Inertias
+pub mod Quaternions
+pub mod Settling
+pub mod Sums

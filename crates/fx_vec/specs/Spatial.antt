@@ -1,6 +1,6 @@
 -- Spatial vectors and their products, as in R. Featherstone, Rigid Body Dynamics Algorithms (Springer 2008), chapter 2.
-use Rattle.std.specs.Prelude.{ℤ, ◌+ℤ◌}
-use Rattle.fx_vec.specs.Vectors.{Triple, dot, cross, plus, minus, times}
+use Rattle.std.specs.Prelude.{ℤ, pos, ◌+ℤ◌}
+use Rattle.fx_vec.specs.Vectors.{Triple, no_vector, dot, cross, plus, minus, times}
 
 -- a motion (angular and linear velocity) or a force (moment and force)
 pub record Spatial (A : Type 0) : Type 0 where
@@ -14,6 +14,30 @@ pub record Inertia : Type 0 where
   pub row_z : Triple ℤ
   pub moment : Triple ℤ
   pub mass : ℤ
+
+-- k a
+abbrev pub times6 : ℤ → Spatial ℤ → Spatial ℤ
+times6 k a = record { ang = times k a.ang; lin = times k a.lin }
+
+-- the sum of two spatial vectors, and the empty one
+abbrev pub plus6 : Spatial ℤ → Spatial ℤ → Spatial ℤ
+plus6 a b = record { ang = plus a.ang b.ang; lin = plus a.lin b.lin }
+
+abbrev pub no_spatial : Spatial ℤ
+no_spatial = record { ang = no_vector; lin = no_vector }
+
+-- the inertia of two bodies about one point, and that of none
+abbrev pub plus_inertia : Inertia → Inertia → Inertia
+plus_inertia a b = record {
+  row_x = plus a.row_x b.row_x;
+  row_y = plus a.row_y b.row_y;
+  row_z = plus a.row_z b.row_z;
+  moment = plus a.moment b.moment;
+  mass = a.mass +ℤ b.mass;
+}
+
+abbrev pub no_inertia : Inertia
+no_inertia = record { row_x = no_vector; row_y = no_vector; row_z = no_vector; moment = no_vector; mass = pos 0 }
 
 -- the power of the force f on the motion s: s . f
 abbrev pub pair : Spatial ℤ → Spatial ℤ → ℤ
@@ -33,4 +57,7 @@ turned i w = record { x = dot i.row_x w; y = dot i.row_y w; z = dot i.row_z w }
 
 -- the momentum of a body with inertia i that moves with s: (I ang + m x lin ; mass lin - m x ang)
 abbrev pub inertia_times : Inertia → Spatial ℤ → Spatial ℤ
-inertia_times i s = record { ang = plus (turned i s.ang) (cross i.moment s.lin); lin = minus (times i.mass s.lin) (cross i.moment s.ang) }
+inertia_times i s = record {
+  ang = plus (turned i s.ang) (cross i.moment s.lin);
+  lin = minus (times i.mass s.lin) (cross i.moment s.ang);
+}

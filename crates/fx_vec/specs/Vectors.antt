@@ -1,5 +1,5 @@
 -- Vectors in space, and their two products. The usual definitions.
-use Rattle.std.specs.Prelude.{ℤ, ◌+ℤ◌, ◌-ℤ◌, ◌*ℤ◌}
+use Rattle.std.specs.Prelude.{ℤ, pos, ◌+ℤ◌, ◌-ℤ◌, ◌*ℤ◌}
 
 -- a vector of coordinates of one type
 pub record Triple (A : Type 0) : Type 0 where
@@ -28,3 +28,6 @@ minus a b = record { x = a.x -ℤ b.x; y = a.y -ℤ b.y; z = a.z -ℤ b.z }
 -- k a
 abbrev pub times : ℤ → Triple ℤ → Triple ℤ
 times k a = record { x = k *ℤ a.x; y = k *ℤ a.y; z = k *ℤ a.z }
+
+abbrev pub no_vector : Triple ℤ
+no_vector = record { x = pos 0; y = pos 0; z = pos 0 }

@@ -16,6 +16,13 @@ cross_width a ra b rb = record {
   z = product_width a.x ra.x b.y rb.y + product_width a.y ra.y b.x rb.x;
 }
 
+-- of k a, with the radii rk and ra
+abbrev pub times_width : ℤ → ℕ → Triple ℤ → Triple ℕ → Triple ℕ
+times_width k rk a ra = record { x = product_width k rk a.x ra.x; y = product_width k rk a.y ra.y; z = product_width k rk a.z ra.z }
+
+abbrev pub times6_width : ℤ → ℕ → Spatial ℤ → Spatial ℕ → Spatial ℕ
+times6_width k rk s rs = record { ang = times_width k rk s.ang rs.ang; lin = times_width k rk s.lin rs.lin }
+
 abbrev pub pair_width : Spatial ℤ → Spatial ℕ → Spatial ℤ → Spatial ℕ → ℕ
 pair_width s rs f rf = dot_width s.ang rs.ang f.ang rf.ang + dot_width s.lin rs.lin f.lin rf.lin
 

@@ -18,10 +18,14 @@ pub fn dot_into<K: Carry, const A: u32, const B: u32, const P: u32>(
 )
     requires scale { P ≡ A + B }
     requires fits { unsigned_abs out.old.mid + dot_size (mids a.now) (mids b.now) < 2 ^ 127 }
-    requires narrow { K.wide_width out.old.rad + dot_width (mids a.now) (radii K.width a.now) (mids b.now) (radii K.width b.now) < 2 ^ 128 }
+    requires narrow { K.wide_width out.old.rad
+        + dot_width (mids a.now) (radii K.width a.now) (mids b.now) (radii K.width b.now)
+        < 2 ^ 128 }
     ensures mid { out.new.mid ≡ out.old.mid +ℤ dot (mids a.now) (mids b.now) }
-    ensures size { unsigned_abs out.new.mid ≤ unsigned_abs out.old.mid + dot_size (mids a.now) (mids b.now) }
-    ensures width { K.wide_width out.new.rad ≡ K.wide_width out.old.rad + dot_width (mids a.now) (radii K.width a.now) (mids b.now) (radii K.width b.now) }
+    ensures size { unsigned_abs out.new.mid
+        ≤ unsigned_abs out.old.mid + dot_size (mids a.now) (mids b.now) }
+    ensures width { K.wide_width out.new.rad ≡ K.wide_width out.old.rad
+        + dot_width (mids a.now) (radii K.width a.now) (mids b.now) (radii K.width b.now) }
 {
     add_product::<K, A, B, P>(&a.x, &b.x, out);
     add_product::<K, A, B, P>(&a.y, &b.y, out);
@@ -37,10 +41,15 @@ pub fn pair_into<K: Carry, const A: u32, const B: u32, const P: u32>(
 )
     requires scale { P ≡ A + B }
     requires fits { unsigned_abs out.old.mid + pair_size (spatial s.now) (spatial f.now) < 2 ^ 127 }
-    requires narrow { K.wide_width out.old.rad + pair_width (spatial s.now) (spatial_radii K.width s.now) (spatial f.now) (spatial_radii K.width f.now) < 2 ^ 128 }
+    requires narrow { K.wide_width out.old.rad
+        + pair_width (spatial s.now) (spatial_radii K.width s.now)
+        (spatial f.now) (spatial_radii K.width f.now) < 2 ^ 128 }
     ensures mid { out.new.mid ≡ out.old.mid +ℤ pair (spatial s.now) (spatial f.now) }
-    ensures size { unsigned_abs out.new.mid ≤ unsigned_abs out.old.mid + pair_size (spatial s.now) (spatial f.now) }
-    ensures width { K.wide_width out.new.rad ≡ K.wide_width out.old.rad + pair_width (spatial s.now) (spatial_radii K.width s.now) (spatial f.now) (spatial_radii K.width f.now) }
+    ensures size { unsigned_abs out.new.mid
+        ≤ unsigned_abs out.old.mid + pair_size (spatial s.now) (spatial f.now) }
+    ensures width { K.wide_width out.new.rad ≡ K.wide_width out.old.rad
+        + pair_width (spatial s.now) (spatial_radii K.width s.now)
+        (spatial f.now) (spatial_radii K.width f.now) }
 {
     dot_into::<K, A, B, P>(&s.ang, &f.ang, out);
     dot_into::<K, A, B, P>(&s.lin, &f.lin, out);

@@ -1,19 +1,20 @@
 // A rigid body's inertia, and its product with a motion.
 ghost use Rattle.std.specs.Prelude.{◌≡◌, ◌+◌, ◌*◌, ◌^◌, ◌<◌, ◌≤◌, ◌+ℤ◌, ◌-ℤ◌, ◌*ℤ◌, unsigned_abs, FitsSigned};
 ghost use mir.Syntax.{w128};
-ghost use Rattle.fx_vec.specs.Vectors.{cross, times};
-ghost use Rattle.fx_vec.specs.Spatial.{turned, inertia_times};
-ghost use Rattle.fx_vec.specs.Sizes.{cross_size, times_size, turned_size, inertia_size};
+ghost use Rattle.fx_vec.specs.Vectors.{cross, times, plus, minus};
+ghost use Rattle.fx_vec.specs.Spatial as spec;
+ghost use Rattle.fx_vec.specs.Sizes.{cross_size, times_size, turned_size, inertia_size, plus_size, plus6_size};
 ghost use Rattle.fx_vec.specs.Widths.{scaled_width, exact_cross_width, exact_times_width, turned_width, inertia_width};
-ghost use Rattle.fx_vec.specs.Views.{mids, radii, sums, widths, spatial, spatial_radii, inertia as inertia_lem};
-ghost use Rattle.fx_vec.specs.Adding.{Fits, Narrow, Added, Taken, Grown, Widened};
-ghost use Rattle.fx_vec.specs.Inertias.{SumFits, IsSum};
+ghost use Rattle.fx_vec.specs.Views.{mids, radii, sums, widths, spatial, spatial_radii, spatial_sums, spatial_widths};
+ghost use Rattle.fx_vec.specs.Views as view;
+ghost use Rattle.fx_vec.specs.Room.{Fits, Narrow, Grown, Fits6, Narrow6, Grown6};
+ghost use Rattle.fx_vec.specs.Inertias.{SumFits};
 
 use crate::leaf::{add_scaled, take_scaled};
 use crate::vector::{Sp6, Sum3, Sum6, V3};
 use fx_num::{Carry, Num, Sum};
 
-/// A rigid body's inertia about the origin, as whole numbers at scale 40: the rotational inertia's six
+/// A rigid body's inertia about the origin, as integers at scale 40: the rotational inertia's six
 /// numbers, the first moment of the mass, and the mass. It is exact.
 #[derive(Clone, Copy, Debug, PartialEq, Eq)]
 pub struct Inertia10 {
@@ -30,7 +31,7 @@ pub struct Inertia10 {
 }
 
 /// `a + b`, where the caller shows that it fits.
-fn plus(a: &i128, b: &i128) -> i128
+fn total(a: &i128, b: &i128) -> i128
     requires { FitsSigned w128 (a.now +ℤ b.now) }
     ensures { result ≡ a.now +ℤ b.now }
 {
@@ -40,19 +41,19 @@ fn plus(a: &i128, b: &i128) -> i128
 /// The inertia of two bodies about one point: the sum, number by number.
 pub fn add10(a: &Inertia10, b: &Inertia10) -> Inertia10
     requires { SumFits a.now b.now }
-    ensures { IsSum a.now b.now result }
+    ensures { view.inertia result ≡ spec.plus_inertia (view.inertia a.now) (view.inertia b.now) }
 {
     Inertia10 {
-        xx: plus(&a.xx, &b.xx),
-        xy: plus(&a.xy, &b.xy),
-        xz: plus(&a.xz, &b.xz),
-        yy: plus(&a.yy, &b.yy),
-        yz: plus(&a.yz, &b.yz),
-        zz: plus(&a.zz, &b.zz),
-        mx: plus(&a.mx, &b.mx),
-        my: plus(&a.my, &b.my),
-        mz: plus(&a.mz, &b.mz),
-        mass: plus(&a.mass, &b.mass),
+        xx: total(&a.xx, &b.xx),
+        xy: total(&a.xy, &b.xy),
+        xz: total(&a.xz, &b.xz),
+        yy: total(&a.yy, &b.yy),
+        yz: total(&a.yz, &b.yz),
+        zz: total(&a.zz, &b.zz),
+        mx: total(&a.mx, &b.mx),
+        my: total(&a.my, &b.my),
+        mz: total(&a.mz, &b.mz),
+        mass: total(&a.mass, &b.mass),
     }
 }
 
@@ -64,11 +65,24 @@ fn row_into<K: Carry, const B: u32, const P: u32>(
     v: &V3<K, B>,
     out: &mut Sum<K, P>,
 )
-    requires fits { unsigned_abs out.old.mid + (unsigned_abs x.now * unsigned_abs v.now.x.mid + unsigned_abs y.now * unsigned_abs v.now.y.mid + unsigned_abs z.now * unsigned_abs v.now.z.mid) < 2 ^ 127 }
-    requires narrow { K.wide_width out.old.rad + (scaled_width x.now (K.width v.now.x.rad) + scaled_width y.now (K.width v.now.y.rad) + scaled_width z.now (K.width v.now.z.rad)) < 2 ^ 128 }
-    ensures mid { out.new.mid ≡ out.old.mid +ℤ (x.now *ℤ v.now.x.mid +ℤ y.now *ℤ v.now.y.mid +ℤ z.now *ℤ v.now.z.mid) }
-    ensures size { unsigned_abs out.new.mid ≤ unsigned_abs out.old.mid + (unsigned_abs x.now * unsigned_abs v.now.x.mid + unsigned_abs y.now * unsigned_abs v.now.y.mid + unsigned_abs z.now * unsigned_abs v.now.z.mid) }
-    ensures width { K.wide_width out.new.rad ≡ K.wide_width out.old.rad + (scaled_width x.now (K.width v.now.x.rad) + scaled_width y.now (K.width v.now.y.rad) + scaled_width z.now (K.width v.now.z.rad)) }
+    requires fits { unsigned_abs out.old.mid
+        + (unsigned_abs x.now * unsigned_abs v.now.x.mid
+        + unsigned_abs y.now * unsigned_abs v.now.y.mid
+        + unsigned_abs z.now * unsigned_abs v.now.z.mid) < 2 ^ 127 }
+    requires narrow { K.wide_width out.old.rad
+        + (scaled_width x.now (K.width v.now.x.rad)
+        + scaled_width y.now (K.width v.now.y.rad)
+        + scaled_width z.now (K.width v.now.z.rad)) < 2 ^ 128 }
+    ensures mid { out.new.mid ≡ out.old.mid
+        +ℤ (x.now *ℤ v.now.x.mid +ℤ y.now *ℤ v.now.y.mid +ℤ z.now *ℤ v.now.z.mid) }
+    ensures size { unsigned_abs out.new.mid ≤ unsigned_abs out.old.mid
+        + (unsigned_abs x.now * unsigned_abs v.now.x.mid
+        + unsigned_abs y.now * unsigned_abs v.now.y.mid
+        + unsigned_abs z.now * unsigned_abs v.now.z.mid) }
+    ensures width { K.wide_width out.new.rad ≡ K.wide_width out.old.rad
+        + (scaled_width x.now (K.width v.now.x.rad)
+        + scaled_width y.now (K.width v.now.y.rad)
+        + scaled_width z.now (K.width v.now.z.rad)) }
 {
     add_scaled::<K, B, P>(x, &v.x, out);
     add_scaled::<K, B, P>(y, &v.y, out);
@@ -83,11 +97,19 @@ fn moment_minor_into<K: Carry, const B: u32, const P: u32>(
     c: &Num<K, B>,
     out: &mut Sum<K, P>,
 )
-    requires fits { unsigned_abs out.old.mid + (unsigned_abs a.now * unsigned_abs d.now.mid + unsigned_abs b.now * unsigned_abs c.now.mid) < 2 ^ 127 }
-    requires narrow { K.wide_width out.old.rad + (scaled_width a.now (K.width d.now.rad) + scaled_width b.now (K.width c.now.rad)) < 2 ^ 128 }
-    ensures mid { out.new.mid ≡ out.old.mid +ℤ (a.now *ℤ d.now.mid -ℤ b.now *ℤ c.now.mid) }
-    ensures size { unsigned_abs out.new.mid ≤ unsigned_abs out.old.mid + (unsigned_abs a.now * unsigned_abs d.now.mid + unsigned_abs b.now * unsigned_abs c.now.mid) }
-    ensures width { K.wide_width out.new.rad ≡ K.wide_width out.old.rad + (scaled_width a.now (K.width d.now.rad) + scaled_width b.now (K.width c.now.rad)) }
+    requires fits { unsigned_abs out.old.mid
+        + (unsigned_abs a.now * unsigned_abs d.now.mid
+        + unsigned_abs b.now * unsigned_abs c.now.mid) < 2 ^ 127 }
+    requires narrow { K.wide_width out.old.rad
+        + (scaled_width a.now (K.width d.now.rad) + scaled_width b.now (K.width c.now.rad))
+        < 2 ^ 128 }
+    ensures mid { out.new.mid
+        ≡ out.old.mid +ℤ (a.now *ℤ d.now.mid -ℤ b.now *ℤ c.now.mid) }
+    ensures size { unsigned_abs out.new.mid ≤ unsigned_abs out.old.mid
+        + (unsigned_abs a.now * unsigned_abs d.now.mid
+        + unsigned_abs b.now * unsigned_abs c.now.mid) }
+    ensures width { K.wide_width out.new.rad ≡ K.wide_width out.old.rad
+        + (scaled_width a.now (K.width d.now.rad) + scaled_width b.now (K.width c.now.rad)) }
 {
     add_scaled::<K, B, P>(a, d, out);
     take_scaled::<K, B, P>(b, c, out);
@@ -99,11 +121,15 @@ fn turned_into<K: Carry, const B: u32, const P: u32>(
     w: &V3<K, B>,
     out: &mut Sum3<K, P>,
 )
-    requires fits { Fits (sums out.old) (turned_size (inertia_lem i.now) (mids w.now)) }
-    requires narrow { Narrow (widths K.wide_width out.old) (turned_width (inertia_lem i.now) (radii K.width w.now)) }
-    ensures mid { Added (sums out.old) (turned (inertia_lem i.now) (mids w.now)) (sums out.new) }
-    ensures size { Grown (sums out.old) (turned_size (inertia_lem i.now) (mids w.now)) (sums out.new) }
-    ensures width { Widened (widths K.wide_width out.old) (turned_width (inertia_lem i.now) (radii K.width w.now)) (widths K.wide_width out.new) }
+    requires fits { Fits (sums out.old) (turned_size (view.inertia i.now) (mids w.now)) }
+    requires narrow { Narrow (widths K.wide_width out.old)
+        (turned_width (view.inertia i.now) (radii K.width w.now)) }
+    ensures mid { sums out.new
+        ≡ plus (sums out.old) (spec.turned (view.inertia i.now) (mids w.now)) }
+    ensures size { Grown (sums out.old)
+        (turned_size (view.inertia i.now) (mids w.now)) (sums out.new) }
+    ensures width { widths K.wide_width out.new ≡ plus_size (widths K.wide_width out.old)
+        (turned_width (view.inertia i.now) (radii K.width w.now)) }
 {
     row_into::<K, B, P>(&i.xx, &i.xy, &i.xz, w, &mut out.x);
     row_into::<K, B, P>(&i.xy, &i.yy, &i.yz, w, &mut out.y);
@@ -116,11 +142,15 @@ fn moment_into<K: Carry, const B: u32, const P: u32>(
     v: &V3<K, B>,
     out: &mut Sum3<K, P>,
 )
-    requires fits { Fits (sums out.old) (cross_size (inertia_lem i.now).moment (mids v.now)) }
-    requires narrow { Narrow (widths K.wide_width out.old) (exact_cross_width (inertia_lem i.now).moment (radii K.width v.now)) }
-    ensures mid { Added (sums out.old) (cross (inertia_lem i.now).moment (mids v.now)) (sums out.new) }
-    ensures size { Grown (sums out.old) (cross_size (inertia_lem i.now).moment (mids v.now)) (sums out.new) }
-    ensures width { Widened (widths K.wide_width out.old) (exact_cross_width (inertia_lem i.now).moment (radii K.width v.now)) (widths K.wide_width out.new) }
+    requires fits { Fits (sums out.old) (cross_size (view.inertia i.now).moment (mids v.now)) }
+    requires narrow { Narrow (widths K.wide_width out.old)
+        (exact_cross_width (view.inertia i.now).moment (radii K.width v.now)) }
+    ensures mid { sums out.new
+        ≡ plus (sums out.old) (cross (view.inertia i.now).moment (mids v.now)) }
+    ensures size { Grown (sums out.old)
+        (cross_size (view.inertia i.now).moment (mids v.now)) (sums out.new) }
+    ensures width { widths K.wide_width out.new ≡ plus_size (widths K.wide_width out.old)
+        (exact_cross_width (view.inertia i.now).moment (radii K.width v.now)) }
 {
     moment_minor_into::<K, B, P>(&i.my, &v.z, &i.mz, &v.y, &mut out.x);
     moment_minor_into::<K, B, P>(&i.mz, &v.x, &i.mx, &v.z, &mut out.y);
@@ -133,11 +163,15 @@ fn moment_from<K: Carry, const B: u32, const P: u32>(
     v: &V3<K, B>,
     out: &mut Sum3<K, P>,
 )
-    requires fits { Fits (sums out.old) (cross_size (inertia_lem i.now).moment (mids v.now)) }
-    requires narrow { Narrow (widths K.wide_width out.old) (exact_cross_width (inertia_lem i.now).moment (radii K.width v.now)) }
-    ensures mid { Taken (sums out.old) (cross (inertia_lem i.now).moment (mids v.now)) (sums out.new) }
-    ensures size { Grown (sums out.old) (cross_size (inertia_lem i.now).moment (mids v.now)) (sums out.new) }
-    ensures width { Widened (widths K.wide_width out.old) (exact_cross_width (inertia_lem i.now).moment (radii K.width v.now)) (widths K.wide_width out.new) }
+    requires fits { Fits (sums out.old) (cross_size (view.inertia i.now).moment (mids v.now)) }
+    requires narrow { Narrow (widths K.wide_width out.old)
+        (exact_cross_width (view.inertia i.now).moment (radii K.width v.now)) }
+    ensures mid { sums out.new
+        ≡ minus (sums out.old) (cross (view.inertia i.now).moment (mids v.now)) }
+    ensures size { Grown (sums out.old)
+        (cross_size (view.inertia i.now).moment (mids v.now)) (sums out.new) }
+    ensures width { widths K.wide_width out.new ≡ plus_size (widths K.wide_width out.old)
+        (exact_cross_width (view.inertia i.now).moment (radii K.width v.now)) }
 {
     moment_minor_into::<K, B, P>(&i.mz, &v.y, &i.my, &v.z, &mut out.x);
     moment_minor_into::<K, B, P>(&i.mx, &v.z, &i.mz, &v.x, &mut out.y);
@@ -151,10 +185,14 @@ fn mass_into<K: Carry, const B: u32, const P: u32>(
     out: &mut Sum3<K, P>,
 )
     requires fits { Fits (sums out.old) (times_size i.now.mass (mids v.now)) }
-    requires narrow { Narrow (widths K.wide_width out.old) (exact_times_width i.now.mass (radii K.width v.now)) }
-    ensures mid { Added (sums out.old) (times i.now.mass (mids v.now)) (sums out.new) }
-    ensures size { Grown (sums out.old) (times_size i.now.mass (mids v.now)) (sums out.new) }
-    ensures width { Widened (widths K.wide_width out.old) (exact_times_width i.now.mass (radii K.width v.now)) (widths K.wide_width out.new) }
+    requires narrow { Narrow (widths K.wide_width out.old)
+        (exact_times_width i.now.mass (radii K.width v.now)) }
+    ensures mid { sums out.new
+        ≡ plus (sums out.old) (times i.now.mass (mids v.now)) }
+    ensures size { Grown (sums out.old)
+        (times_size i.now.mass (mids v.now)) (sums out.new) }
+    ensures width { widths K.wide_width out.new ≡ plus_size (widths K.wide_width out.old)
+        (exact_times_width i.now.mass (radii K.width v.now)) }
 {
     add_scaled::<K, B, P>(&i.mass, &v.x, &mut out.x);
     add_scaled::<K, B, P>(&i.mass, &v.y, &mut out.y);
@@ -169,16 +207,17 @@ pub fn inertia_into<K: Carry, const B: u32, const P: u32>(
     out: &mut Sum6<K, P>,
 )
     requires scale { P ≡ 40 + B }
-    requires fits_ang { Fits (sums out.old.ang) (inertia_size (inertia_lem i.now) (spatial s.now)).ang }
-    requires fits_lin { Fits (sums out.old.lin) (inertia_size (inertia_lem i.now) (spatial s.now)).lin }
-    requires narrow_ang { Narrow (widths K.wide_width out.old.ang) (inertia_width (inertia_lem i.now) (spatial_radii K.width s.now)).ang }
-    requires narrow_lin { Narrow (widths K.wide_width out.old.lin) (inertia_width (inertia_lem i.now) (spatial_radii K.width s.now)).lin }
-    ensures mid_ang { Added (sums out.old.ang) (inertia_times (inertia_lem i.now) (spatial s.now)).ang (sums out.new.ang) }
-    ensures mid_lin { Added (sums out.old.lin) (inertia_times (inertia_lem i.now) (spatial s.now)).lin (sums out.new.lin) }
-    ensures size_ang { Grown (sums out.old.ang) (inertia_size (inertia_lem i.now) (spatial s.now)).ang (sums out.new.ang) }
-    ensures size_lin { Grown (sums out.old.lin) (inertia_size (inertia_lem i.now) (spatial s.now)).lin (sums out.new.lin) }
-    ensures width_ang { Widened (widths K.wide_width out.old.ang) (inertia_width (inertia_lem i.now) (spatial_radii K.width s.now)).ang (widths K.wide_width out.new.ang) }
-    ensures width_lin { Widened (widths K.wide_width out.old.lin) (inertia_width (inertia_lem i.now) (spatial_radii K.width s.now)).lin (widths K.wide_width out.new.lin) }
+    requires fits { Fits6 (spatial_sums out.old)
+        (inertia_size (view.inertia i.now) (spatial s.now)) }
+    requires narrow { Narrow6 (spatial_widths K.wide_width out.old)
+        (inertia_width (view.inertia i.now) (spatial_radii K.width s.now)) }
+    ensures mid { spatial_sums out.new ≡ spec.plus6 (spatial_sums out.old)
+        (spec.inertia_times (view.inertia i.now) (spatial s.now)) }
+    ensures size { Grown6 (spatial_sums out.old)
+        (inertia_size (view.inertia i.now) (spatial s.now)) (spatial_sums out.new) }
+    ensures width { spatial_widths K.wide_width out.new
+        ≡ plus6_size (spatial_widths K.wide_width out.old)
+        (inertia_width (view.inertia i.now) (spatial_radii K.width s.now)) }
 {
     turned_into::<K, B, P>(i, &s.ang, &mut out.ang);
     moment_into::<K, B, P>(i, &s.lin, &mut out.ang);

@@ -13,11 +13,15 @@ pub(crate) fn add_product<K: Carry, const A: u32, const B: u32, const P: u32>(
     out: &mut Sum<K, P>,
 )
     requires scale { P ≡ A + B }
-    requires fits { unsigned_abs out.old.mid + unsigned_abs a.now.mid * unsigned_abs b.now.mid < 2 ^ 127 }
-    requires width { K.wide_width out.old.rad + product_width a.now.mid (K.width a.now.rad) b.now.mid (K.width b.now.rad) < 2 ^ 128 }
+    requires fits { unsigned_abs out.old.mid
+        + unsigned_abs a.now.mid * unsigned_abs b.now.mid < 2 ^ 127 }
+    requires width { K.wide_width out.old.rad
+        + product_width a.now.mid (K.width a.now.rad) b.now.mid (K.width b.now.rad) < 2 ^ 128 }
     ensures mid { out.new.mid ≡ out.old.mid +ℤ a.now.mid *ℤ b.now.mid }
-    ensures size { unsigned_abs out.new.mid ≤ unsigned_abs out.old.mid + unsigned_abs a.now.mid * unsigned_abs b.now.mid }
-    ensures rad { K.wide_width out.new.rad ≡ K.wide_width out.old.rad + product_width a.now.mid (K.width a.now.rad) b.now.mid (K.width b.now.rad) }
+    ensures size { unsigned_abs out.new.mid
+        ≤ unsigned_abs out.old.mid + unsigned_abs a.now.mid * unsigned_abs b.now.mid }
+    ensures rad { K.wide_width out.new.rad ≡ K.wide_width out.old.rad
+        + product_width a.now.mid (K.width a.now.rad) b.now.mid (K.width b.now.rad) }
 {
     mul_into::<K, A, B, P>(*a, *b, out);
 }
@@ -29,11 +33,15 @@ pub(crate) fn take_product<K: Carry, const A: u32, const B: u32, const P: u32>(
     out: &mut Sum<K, P>,
 )
     requires scale { P ≡ A + B }
-    requires fits { unsigned_abs out.old.mid + unsigned_abs a.now.mid * unsigned_abs b.now.mid < 2 ^ 127 }
-    requires width { K.wide_width out.old.rad + product_width a.now.mid (K.width a.now.rad) b.now.mid (K.width b.now.rad) < 2 ^ 128 }
+    requires fits { unsigned_abs out.old.mid
+        + unsigned_abs a.now.mid * unsigned_abs b.now.mid < 2 ^ 127 }
+    requires width { K.wide_width out.old.rad
+        + product_width a.now.mid (K.width a.now.rad) b.now.mid (K.width b.now.rad) < 2 ^ 128 }
     ensures mid { out.new.mid ≡ out.old.mid -ℤ a.now.mid *ℤ b.now.mid }
-    ensures size { unsigned_abs out.new.mid ≤ unsigned_abs out.old.mid + unsigned_abs a.now.mid * unsigned_abs b.now.mid }
-    ensures rad { K.wide_width out.new.rad ≡ K.wide_width out.old.rad + product_width a.now.mid (K.width a.now.rad) b.now.mid (K.width b.now.rad) }
+    ensures size { unsigned_abs out.new.mid
+        ≤ unsigned_abs out.old.mid + unsigned_abs a.now.mid * unsigned_abs b.now.mid }
+    ensures rad { K.wide_width out.new.rad ≡ K.wide_width out.old.rad
+        + product_width a.now.mid (K.width a.now.rad) b.now.mid (K.width b.now.rad) }
 {
     out.mid = difference(out.mid, product(a.mid, b.mid));
     out.rad = K::join(out.rad, K::product(a.mid, a.rad, i128::from(b.mid), b.rad));
@@ -54,11 +62,14 @@ pub(crate) fn add_scaled<K: Carry, const B: u32, const P: u32>(
     b: &Num<K, B>,
     out: &mut Sum<K, P>,
 )
-    requires fits { unsigned_abs out.old.mid + unsigned_abs a.now * unsigned_abs b.now.mid < 2 ^ 127 }
+    requires fits { unsigned_abs out.old.mid
+        + unsigned_abs a.now * unsigned_abs b.now.mid < 2 ^ 127 }
     requires width { K.wide_width out.old.rad + scaled_width a.now (K.width b.now.rad) < 2 ^ 128 }
     ensures mid { out.new.mid ≡ out.old.mid +ℤ a.now *ℤ b.now.mid }
-    ensures size { unsigned_abs out.new.mid ≤ unsigned_abs out.old.mid + unsigned_abs a.now * unsigned_abs b.now.mid }
-    ensures rad { K.wide_width out.new.rad ≡ K.wide_width out.old.rad + scaled_width a.now (K.width b.now.rad) }
+    ensures size { unsigned_abs out.new.mid
+        ≤ unsigned_abs out.old.mid + unsigned_abs a.now * unsigned_abs b.now.mid }
+    ensures rad { K.wide_width out.new.rad
+        ≡ K.wide_width out.old.rad + scaled_width a.now (K.width b.now.rad) }
 {
     out.mid = sum(out.mid, exact_product(a, b));
     out.rad = K::join(out.rad, K::product(b.mid, b.rad, *a, K::none()));
@@ -70,11 +81,14 @@ pub(crate) fn take_scaled<K: Carry, const B: u32, const P: u32>(
     b: &Num<K, B>,
     out: &mut Sum<K, P>,
 )
-    requires fits { unsigned_abs out.old.mid + unsigned_abs a.now * unsigned_abs b.now.mid < 2 ^ 127 }
+    requires fits { unsigned_abs out.old.mid
+        + unsigned_abs a.now * unsigned_abs b.now.mid < 2 ^ 127 }
     requires width { K.wide_width out.old.rad + scaled_width a.now (K.width b.now.rad) < 2 ^ 128 }
     ensures mid { out.new.mid ≡ out.old.mid -ℤ a.now *ℤ b.now.mid }
-    ensures size { unsigned_abs out.new.mid ≤ unsigned_abs out.old.mid + unsigned_abs a.now * unsigned_abs b.now.mid }
-    ensures rad { K.wide_width out.new.rad ≡ K.wide_width out.old.rad + scaled_width a.now (K.width b.now.rad) }
+    ensures size { unsigned_abs out.new.mid
+        ≤ unsigned_abs out.old.mid + unsigned_abs a.now * unsigned_abs b.now.mid }
+    ensures rad { K.wide_width out.new.rad
+        ≡ K.wide_width out.old.rad + scaled_width a.now (K.width b.now.rad) }
 {
     out.mid = difference(out.mid, exact_product(a, b));
     out.rad = K::join(out.rad, K::product(b.mid, b.rad, *a, K::none()));

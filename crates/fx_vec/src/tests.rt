@@ -1,5 +1,5 @@
 use super::*;
-use fx_num::{Fix, Number, Plain, Total};
+use fx_num::{Fix, Number, Over, Plain, Total};
 
 // Macros and not functions, so that a call's condition is computed from the numbers.
 macro_rules! vector {
@@ -166,6 +166,65 @@ fn inertias_add_up(rt: HostRuntime) {
             mass: 20,
         }
     );
+}
+
+#[test]
+fn six_sums_are_added(rt: HostRuntime) {
+    let mut out = Total6 {
+        ang: totals!(1, 2, 3),
+        lin: totals!(4, 5, 6),
+    };
+    let more = Total6 {
+        ang: totals!(10, 20, 30),
+        lin: totals!(40, 50, -60),
+    };
+    add6::<Plain, 5>(&more, &mut out);
+    assert_eq!(rt; out.ang, totals!(11, 22, 33));
+    assert_eq!(rt; out.lin, totals!(44, 55, -54));
+}
+
+#[test]
+fn multiples_are_added(rt: HostRuntime) {
+    let mut out = Total6 {
+        ang: totals!(1, 1, 1),
+        lin: totals!(0, 0, 0),
+    };
+    times6_into::<Plain, 2, 3, 5>(&Fix::from_raw(-3), &motion!(), &mut out);
+    assert_eq!(rt; out.ang, totals!(-2, -5, -8));
+    assert_eq!(rt; out.lin, totals!(-12, -15, -18));
+}
+
+#[test]
+fn settling_judges_in_order(rt: HostRuntime) {
+    let sums = totals!(5, 6, -11);
+    assert_eq!(rt; settle3::<Plain, 2, 1>(&sums, 5), Ok(vector!(2, 3, -5)));
+    assert_eq!(rt; settle3::<Plain, 2, 1>(&sums, 4), Err(Over::Value));
+    let six = Total6 {
+        ang: totals!(0, 2, 4),
+        lin: sums,
+    };
+    let settled = Vector6 {
+        ang: vector!(0, 1, 2),
+        lin: vector!(2, 3, -5),
+    };
+    assert_eq!(rt; settle6::<Plain, 2, 1>(&six, 5), Ok(settled));
+    assert_eq!(rt; settle6::<Plain, 2, 1>(&six, 4), Err(Over::Value));
+}
+
+#[test]
+fn plain_vectors_are_added_and_moved(rt: HostRuntime) {
+    let one = 1i64 << 32;
+    let a: V3<Plain, 32> = vector!(1, 2, 3);
+    let b: V3<Plain, 32> = vector!(10, -20, 30);
+    assert_eq!(rt; plus(&a, &b), vector!(11, -18, 33));
+    assert_eq!(rt; minus(&a, &b), vector!(-9, 22, -27));
+    // a half, a whole and minus a half, times 3: 1.5, 3 and -1.5, each rounded toward zero
+    let n: V3<Plain, 32> = vector!(one / 2, one, -(one / 2));
+    let three = Fix::from_raw(3);
+    assert_eq!(rt; stretch(&n, &three), vector!(1, 3, -1));
+    assert_eq!(rt; move_along(&a, &n, &three), vector!(2, 5, 1));
+    // 5 - 20 - 15
+    assert_eq!(rt; project(&n, &b), Fix::from_raw(-30));
 }
 
 #[test]
