@@ -1,12 +1,12 @@
 -- The laws of the series and of the quarter turns (specs/Sine).
-use Rattle.std.proofs.Common.{◌≡◌, ℕ, zero, suc, ◌+◌, ◌-◌, ◌*◌, ◌/◌, ◌%◌, ◌^◌, ◌<◌, ◌≤◌, ℤ, pos, negsuc, ◌+ℤ◌, ◌-ℤ◌, ◌*ℤ◌, neg_ℤ, ◌≤ℤ◌, unsigned_abs, refl, sym, ap, ap₂, ◌∙◌, subst, arith, add-one, mul-le-mul, mul-le-mul_left}
+use Rattle.std.proofs.Common.{◌≡◌, ℕ, zero, suc, ◌+◌, ◌-◌, ◌*◌, ◌/◌, ◌%◌, ◌^◌, ◌<◌, ◌≤◌, ◌<ℤ◌, ℤ, pos, negsuc, ◌+ℤ◌, ◌-ℤ◌, ◌*ℤ◌, neg_ℤ, ◌≤ℤ◌, unsigned_abs, refl, sym, ap, ap₂, ◌∙◌, arith, mul-le-mul, mul-le-mul_left}
 use Rattle.std.proofs.lemmas.Int.{ints, unsigned_abs-mul}
 use Rattle.fx_whole.specs.Nearest.{nearest, IsNearest}
 use Rattle.fx_whole.specs.Sums.{sum_to}
-use Rattle.fx_whole.proofs.NearestLaws.{nearest-within, nearest-within_twice, nearest-neg, nearest-mono, nearest-zero, nearest-is_nearest}
+use Rattle.fx_whole.proofs.NearestLaws.{nearest-within, nearest-within_twice, nearest-neg, nearest-mono, nearest-zero, nearest-is_nearest, nearest-unique}
 use Rattle.fx_whole.proofs.Ring.{neg_ℤ-*ℤ, *ℤ-neg_ℤ, square_nonneg, abs-add, abs-neg, abs_mul_le, mul_nonneg}
 use Rattle.fx_whole.proofs.SumLaws.{sum_to-neg, sum_to-ext, sum_to-first}
-use Rattle.mj_quat.specs.Sine.{quarter_turn, fine, quarters, rest, square, next_term, sine_term, cosine_term, sine_sum, cosine_sum, rest_sine, rest_cosine, quadrant, turned_sine, turned_cosine, sine_at, cosine_at, sine, cosine}
+use Rattle.mj_quat.specs.Sine.{quarter_turn, fine, quarters, rest, square, next_term, sine_term, cosine_term, sine_sum, cosine_sum, rest_sine, rest_cosine, quadrant, quadrant_sine, quadrant_cosine, sine_at, cosine_at, sine, cosine}
 
 -- ---- sizes of terms
 -- times z <= 2^60 and divided by m >= 2, a term is at most half as large, a tie being rounded down
@@ -120,57 +120,50 @@ pub rest_cosine-size : (t : ℤ) → unsigned_abs t ≤ 13 * 2 ^ 56 → unsigned
 unfolding cosine_sum
 rest_cosine-size t h = nearest-within (sum_to 9 (cosine_term (square t))) (pos (2 ^ 28)) (2 ^ 32) (cosine_terms-size (square t) 7 (square-nonneg t) (omega (arith, square-size t h)))
 
--- ---- the sums as the code forms them
+-- ---- the sums as the code forms them, two terms at a time
 -- the term at n, and the sum of the terms up to it
 pub record Summed (f : ℕ → ℤ) (n : ℕ) (term total : ℤ) : Type 0 where
   pub term_is : term ≡ f n
   pub total_is : total ≡ sum_to (suc n) f
-  pub term_small : unsigned_abs term ≤ 2 ^ 60
-  pub total_small : unsigned_abs total ≤ (n + 1) * 2 ^ 60
 
-pub sine-start : (t z : ℤ) → unsigned_abs t ≤ 2 ^ 60 → Summed (sine_term t z) 0 t t
+pub sine-start : (t z : ℤ) → Summed (sine_term t z) 0 t t
 unfolding sine_term
-sine-start t z h = record { term_is = refl; total_is = omega (arith, ints); term_small = h; total_small = omega (arith, h) }
+sine-start t z = record { term_is = refl; total_is = omega (arith, ints) }
 
 pub cosine-start : (z a : ℤ) → a ≡ pos (2 ^ 60) → Summed (cosine_term z) 0 a a
 unfolding cosine_term
-cosine-start z a e = record { term_is = e; total_is = omega (arith, ints); term_small = omega (arith, ints); total_small = omega (arith, ints) }
+cosine-start z a e = record { term_is = e; total_is = omega (arith, ints) }
 
-pub sine-step : (t z : ℤ) (n : ℕ) (a s b r : ℤ) → Summed (sine_term t z) n a s → b ≡ next_term a z ((2 * n + 2) * (2 * n + 3)) → r ≡ s +ℤ next_term a z ((2 * n + 2) * (2 * n + 3))
-    → unsigned_abs b ≤ 2 ^ 60 → unsigned_abs r ≤ unsigned_abs s + 2 ^ 60 → Summed (sine_term t z) (n + 1) b r
+two_more : (f : ℕ → ℤ) (n : ℕ) (a b c s r : ℤ) → Summed f n a s → c ≡ f (suc n) → b ≡ f (suc (suc n)) → r ≡ s +ℤ c +ℤ b → Summed f (suc (suc n)) b r
+two_more f n a b c s r w d e h = record { term_is = e; total_is = h ∙ ap₂ (λ x y. x +ℤ y) (ap₂ (λ x y. x +ℤ y) w.total_is d) e }
+
+pub sine-two : (t z : ℤ) (n i j : ℕ) (a b s r : ℤ) → Summed (sine_term t z) n a s → i ≡ (2 * n + 2) * (2 * n + 3) → j ≡ (2 * suc n + 2) * (2 * suc n + 3)
+    → b ≡ next_term (next_term a z i) z j → r ≡ s +ℤ next_term a z i +ℤ b → Summed (sine_term t z) (suc (suc n)) b r
 unfolding sine_term
-sine-step t z n a s b r w e d h k =
-    let v : next_term a z ((2 * n + 2) * (2 * n + 3)) ≡ sine_term t z (suc n) = ap (λ x. next_term x z ((2 * n + 2) * (2 * n + 3))) w.term_is in
-    subst (λ (m : ℕ). Summed (sine_term t z) m b r) (sym (add-one n))
-    (record {
-      term_is = e ∙ v;
-      total_is = d ∙ ap₂ (λ x y. x +ℤ y) w.total_is v;
-      term_small = h;
-      total_small = omega (arith, k, w.total_small);
-    })
+sine-two t z n i j a b s r w d e h k =
+    let v : next_term a z i ≡ sine_term t z (suc n) = ap₂ (λ x m. next_term x z m) w.term_is d in
+    two_more (sine_term t z) n a b (next_term a z i) s r w v (h ∙ ap₂ (λ x m. next_term x z m) v e) k
 
-pub cosine-step : (z : ℤ) (n : ℕ) (a s b r : ℤ) → Summed (cosine_term z) n a s → b ≡ next_term a z ((2 * n + 1) * (2 * n + 2)) → r ≡ s +ℤ next_term a z ((2 * n + 1) * (2 * n + 2))
-    → unsigned_abs b ≤ 2 ^ 60 → unsigned_abs r ≤ unsigned_abs s + 2 ^ 60 → Summed (cosine_term z) (n + 1) b r
+pub cosine-two : (z : ℤ) (n i j : ℕ) (a b s r : ℤ) → Summed (cosine_term z) n a s → i ≡ (2 * n + 1) * (2 * n + 2) → j ≡ (2 * suc n + 1) * (2 * suc n + 2)
+    → b ≡ next_term (next_term a z i) z j → r ≡ s +ℤ next_term a z i +ℤ b → Summed (cosine_term z) (suc (suc n)) b r
 unfolding cosine_term
-cosine-step z n a s b r w e d h k =
-    let v : next_term a z ((2 * n + 1) * (2 * n + 2)) ≡ cosine_term z (suc n) = ap (λ x. next_term x z ((2 * n + 1) * (2 * n + 2))) w.term_is in
-    subst (λ (m : ℕ). Summed (cosine_term z) m b r) (sym (add-one n))
-    (record {
-      term_is = e ∙ v;
-      total_is = d ∙ ap₂ (λ x y. x +ℤ y) w.total_is v;
-      term_small = h;
-      total_small = omega (arith, k, w.total_small);
-    })
+cosine-two z n i j a b s r w d e h k =
+    let v : next_term a z i ≡ cosine_term z (suc n) = ap₂ (λ x m. next_term x z m) w.term_is d in
+    two_more (cosine_term z) n a b (next_term a z i) s r w v (h ∙ ap₂ (λ x m. next_term x z m) v e) k
 
-pub sine-whole : (t z : ℤ) (n : ℕ) (a s : ℤ) → n ≡ 8 → z ≡ square t → Summed (sine_term t z) n a s → s ≡ sine_sum t
+pub sine-whole : (t z a s : ℤ) → z ≡ square t → Summed (sine_term t z) 8 a s → s ≡ sine_sum t
 unfolding sine_sum
-sine-whole t z n a s e d w = w.total_is ∙ ap (λ (m : ℕ). sum_to (suc m) (sine_term t z)) e ∙ ap (λ x. sum_to 9 (sine_term t x)) d
+sine-whole t z a s d w = w.total_is ∙ ap (λ x. sum_to 9 (sine_term t x)) d
 
-pub cosine-whole : (t z : ℤ) (n : ℕ) (a s : ℤ) → n ≡ 8 → z ≡ square t → Summed (cosine_term z) n a s → s ≡ cosine_sum t
+pub cosine-whole : (t z a s : ℤ) → z ≡ square t → Summed (cosine_term z) 8 a s → s ≡ cosine_sum t
 unfolding cosine_sum
-cosine-whole t z n a s e d w = w.total_is ∙ ap (λ (m : ℕ). sum_to (suc m) (cosine_term z)) e ∙ ap (λ x. sum_to 9 (cosine_term x)) d
+cosine-whole t z a s d w = w.total_is ∙ ap (λ x. sum_to 9 (cosine_term x)) d
 
--- ---- an angle turned round
+-- ---- quarter turns
+pub quarters-unique : (x k : ℤ) → 2 * unsigned_abs (fine x -ℤ k *ℤ quarter_turn) < unsigned_abs quarter_turn → k ≡ quarters x
+quarters-unique x k h = nearest-unique (fine x) quarter_turn k (omega (arith, ints)) (record { close = omega (arith, h); tie = λ e. absurd (omega (arith, h, e)) })
+
+-- ---- an angle with the other sign
 quarters-neg : (x : ℤ) → quarters (neg_ℤ x) ≡ neg_ℤ (quarters x)
 quarters-neg x = ap (λ a. nearest a quarter_turn) (neg_ℤ-*ℤ x (pos (2 ^ 29))) ∙ nearest-neg (fine x) quarter_turn
 
@@ -189,8 +182,15 @@ square-neg t = ap (λ a. nearest a (pos (2 ^ 60))) (same t)
     same : (t : ℤ) → neg_ℤ t *ℤ neg_ℤ t ≡ t *ℤ t
     same t = neg_ℤ-*ℤ t (neg_ℤ t) ∙ ap neg_ℤ (*ℤ-neg_ℤ t t) ∙ omega (arith, ints)
 
-next_term-neg : (a z : ℤ) (m : ℕ) → next_term (neg_ℤ a) z m ≡ neg_ℤ (next_term a z m)
+pub next_term-neg : (a z : ℤ) (m : ℕ) → next_term (neg_ℤ a) z m ≡ neg_ℤ (next_term a z m)
 next_term-neg a z m = ap (λ x. neg_ℤ (nearest x (pos (m * 2 ^ 60)))) (neg_ℤ-*ℤ a z) ∙ ap neg_ℤ (nearest-neg (a *ℤ z) (pos (m * 2 ^ 60)))
+
+-- two terms on, by sizes
+pub next_term-twice : (x y b z : ℤ) (m k : ℕ) → neg_ℤ y ≡ next_term x z m → neg_ℤ b ≡ next_term y z k → b ≡ next_term (next_term x z m) z k
+next_term-twice x y b z m k e d = neg_neg b ∙ ap neg_ℤ d ∙ sym (next_term-neg y z k) ∙ ap (λ u. next_term u z k) e
+  where
+    neg_neg : (a : ℤ) → a ≡ neg_ℤ (neg_ℤ a)
+    neg_neg a = omega (arith, ints)
 
 sine_term-neg : (t z : ℤ) (n : ℕ) → sine_term (neg_ℤ t) z n ≡ neg_ℤ (sine_term t z n)
 unfolding sine_term
@@ -209,6 +209,15 @@ rest_sine-neg t = ap (λ a. nearest a (pos (2 ^ 28))) (sine_terms-neg t (square 
 pub rest_cosine-neg : (t : ℤ) → rest_cosine (neg_ℤ t) ≡ rest_cosine t
 unfolding cosine_sum
 rest_cosine-neg t = ap (λ z. nearest (sum_to 9 (cosine_term z)) (pos (2 ^ 28))) (square-neg t)
+
+-- of an angle that is negative, from its size
+pub rest_sine-below : (t s : ℤ) (u : ℕ) → t <ℤ pos 0 → u ≡ unsigned_abs t → s ≡ rest_sine (pos u) → neg_ℤ s ≡ rest_sine t
+rest_sine-below (pos a) s u h e d = absurd (omega (arith, ints))
+rest_sine-below (negsuc a) s u h e d = ap neg_ℤ (d ∙ ap (λ x. rest_sine (pos x)) e) ∙ sym (rest_sine-neg (pos (suc a)))
+
+pub rest_cosine-below : (t c : ℤ) (u : ℕ) → t <ℤ pos 0 → u ≡ unsigned_abs t → c ≡ rest_cosine (pos u) → c ≡ rest_cosine t
+rest_cosine-below (pos a) c u h e d = absurd (omega (arith, ints))
+rest_cosine-below (negsuc a) c u h e d = d ∙ ap (λ x. rest_cosine (pos x)) e ∙ sym (rest_cosine-neg (pos (suc a)))
 
 -- ---- quadrants
 quadrant-below : (k : ℤ) → quadrant k < 4
@@ -236,23 +245,23 @@ below_four P a b c d (suc (suc (suc (suc q)))) h = absurd (omega arith)
 neg_neg : (a : ℤ) → a ≡ neg_ℤ (neg_ℤ a)
 neg_neg a = omega (arith, ints)
 
-turned_sine-neg : (s c : ℤ) (q : ℕ) → q < 4 → turned_sine ((4 - q) % 4) (neg_ℤ s) c ≡ neg_ℤ (turned_sine q s c)
-turned_sine-neg s c q h = below_four (λ q. turned_sine ((4 - q) % 4) (neg_ℤ s) c ≡ neg_ℤ (turned_sine q s c)) refl refl refl (neg_neg c) q h
+quadrant_sine-neg : (s c : ℤ) (q : ℕ) → q < 4 → quadrant_sine ((4 - q) % 4) (neg_ℤ s) c ≡ neg_ℤ (quadrant_sine q s c)
+quadrant_sine-neg s c q h = below_four (λ q. quadrant_sine ((4 - q) % 4) (neg_ℤ s) c ≡ neg_ℤ (quadrant_sine q s c)) refl refl refl (neg_neg c) q h
 
-turned_cosine-neg : (s c : ℤ) (q : ℕ) → q < 4 → turned_cosine ((4 - q) % 4) (neg_ℤ s) c ≡ turned_cosine q s c
-turned_cosine-neg s c q h = below_four (λ q. turned_cosine ((4 - q) % 4) (neg_ℤ s) c ≡ turned_cosine q s c) refl refl refl (sym (neg_neg s)) q h
+quadrant_cosine-neg : (s c : ℤ) (q : ℕ) → q < 4 → quadrant_cosine ((4 - q) % 4) (neg_ℤ s) c ≡ quadrant_cosine q s c
+quadrant_cosine-neg s c q h = below_four (λ q. quadrant_cosine ((4 - q) % 4) (neg_ℤ s) c ≡ quadrant_cosine q s c) refl refl refl (sym (neg_neg s)) q h
 
-turned_sine-next : (s c : ℤ) (q : ℕ) → q < 4 → turned_sine ((q + 1) % 4) s c ≡ turned_cosine q s c
-turned_sine-next s c q h = below_four (λ q. turned_sine ((q + 1) % 4) s c ≡ turned_cosine q s c) refl refl refl refl q h
+quadrant_sine-next : (s c : ℤ) (q : ℕ) → q < 4 → quadrant_sine ((q + 1) % 4) s c ≡ quadrant_cosine q s c
+quadrant_sine-next s c q h = below_four (λ q. quadrant_sine ((q + 1) % 4) s c ≡ quadrant_cosine q s c) refl refl refl refl q h
 
-turned_cosine-next : (s c : ℤ) (q : ℕ) → q < 4 → turned_cosine ((q + 1) % 4) s c ≡ neg_ℤ (turned_sine q s c)
-turned_cosine-next s c q h = below_four (λ q. turned_cosine ((q + 1) % 4) s c ≡ neg_ℤ (turned_sine q s c)) refl refl (neg_neg s) (neg_neg c) q h
+quadrant_cosine-next : (s c : ℤ) (q : ℕ) → q < 4 → quadrant_cosine ((q + 1) % 4) s c ≡ neg_ℤ (quadrant_sine q s c)
+quadrant_cosine-next s c q h = below_four (λ q. quadrant_cosine ((q + 1) % 4) s c ≡ neg_ℤ (quadrant_sine q s c)) refl refl (neg_neg s) (neg_neg c) q h
 
-turned_sine-size : (s c : ℤ) (n q : ℕ) → unsigned_abs s ≤ n → unsigned_abs c ≤ n → q < 4 → unsigned_abs (turned_sine q s c) ≤ n
-turned_sine-size s c n q h k = below_four (λ q. unsigned_abs (turned_sine q s c) ≤ n) h k (rw abs-neg h) (rw abs-neg k) q
+quadrant_sine-size : (s c : ℤ) (n q : ℕ) → unsigned_abs s ≤ n → unsigned_abs c ≤ n → q < 4 → unsigned_abs (quadrant_sine q s c) ≤ n
+quadrant_sine-size s c n q h k = below_four (λ q. unsigned_abs (quadrant_sine q s c) ≤ n) h k (rw abs-neg h) (rw abs-neg k) q
 
-turned_cosine-size : (s c : ℤ) (n q : ℕ) → unsigned_abs s ≤ n → unsigned_abs c ≤ n → q < 4 → unsigned_abs (turned_cosine q s c) ≤ n
-turned_cosine-size s c n q h k = below_four (λ q. unsigned_abs (turned_cosine q s c) ≤ n) k (rw abs-neg h) (rw abs-neg k) h q
+quadrant_cosine-size : (s c : ℤ) (n q : ℕ) → unsigned_abs s ≤ n → unsigned_abs c ≤ n → q < 4 → unsigned_abs (quadrant_cosine q s c) ≤ n
+quadrant_cosine-size s c n q h k = below_four (λ q. unsigned_abs (quadrant_cosine q s c) ≤ n) k (rw abs-neg h) (rw abs-neg k) h q
 
 -- ---- the laws
 -- at most an eighth of a turn is left of any angle, so neither number passes 1
@@ -266,24 +275,24 @@ rest-size x =
 
 pub sine-size : (x : ℤ) → unsigned_abs (sine x) ≤ 2 ^ 32
 unfolding sine
-sine-size x = turned_sine-size (rest_sine (rest x)) (rest_cosine (rest x)) (2 ^ 32) (quadrant (quarters x)) (rest_sine-size (rest x) (rest-size x)) (rest_cosine-size (rest x) (rest-size x)) (quadrant-below (quarters x))
+sine-size x = quadrant_sine-size (rest_sine (rest x)) (rest_cosine (rest x)) (2 ^ 32) (quadrant (quarters x)) (rest_sine-size (rest x) (rest-size x)) (rest_cosine-size (rest x) (rest-size x)) (quadrant-below (quarters x))
 
 pub cosine-size : (x : ℤ) → unsigned_abs (cosine x) ≤ 2 ^ 32
 unfolding cosine
-cosine-size x = turned_cosine-size (rest_sine (rest x)) (rest_cosine (rest x)) (2 ^ 32) (quadrant (quarters x)) (rest_sine-size (rest x) (rest-size x)) (rest_cosine-size (rest x) (rest-size x)) (quadrant-below (quarters x))
+cosine-size x = quadrant_cosine-size (rest_sine (rest x)) (rest_cosine (rest x)) (2 ^ 32) (quadrant (quarters x)) (rest_sine-size (rest x) (rest-size x)) (rest_cosine-size (rest x) (rest-size x)) (quadrant-below (quarters x))
 
 -- one quarter turn more
 pub sine_at-next : (k t : ℤ) → sine_at (k +ℤ pos 1) t ≡ cosine_at k t
-sine_at-next k t = ap (λ q. turned_sine q (rest_sine t) (rest_cosine t)) (quadrant-next k) ∙ turned_sine-next (rest_sine t) (rest_cosine t) (quadrant k) (quadrant-below k)
+sine_at-next k t = ap (λ q. quadrant_sine q (rest_sine t) (rest_cosine t)) (quadrant-next k) ∙ quadrant_sine-next (rest_sine t) (rest_cosine t) (quadrant k) (quadrant-below k)
 
 pub cosine_at-next : (k t : ℤ) → cosine_at (k +ℤ pos 1) t ≡ neg_ℤ (sine_at k t)
-cosine_at-next k t = ap (λ q. turned_cosine q (rest_sine t) (rest_cosine t)) (quadrant-next k) ∙ turned_cosine-next (rest_sine t) (rest_cosine t) (quadrant k) (quadrant-below k)
+cosine_at-next k t = ap (λ q. quadrant_cosine q (rest_sine t) (rest_cosine t)) (quadrant-next k) ∙ quadrant_cosine-next (rest_sine t) (rest_cosine t) (quadrant k) (quadrant-below k)
 
 sine_at-neg : (k t : ℤ) → sine_at (neg_ℤ k) (neg_ℤ t) ≡ neg_ℤ (sine_at k t)
-sine_at-neg k t = rw (quadrant-neg k, rest_sine-neg t, rest_cosine-neg t) (turned_sine-neg (rest_sine t) (rest_cosine t) (quadrant k) (quadrant-below k))
+sine_at-neg k t = rw (quadrant-neg k, rest_sine-neg t, rest_cosine-neg t) (quadrant_sine-neg (rest_sine t) (rest_cosine t) (quadrant k) (quadrant-below k))
 
 cosine_at-neg : (k t : ℤ) → cosine_at (neg_ℤ k) (neg_ℤ t) ≡ cosine_at k t
-cosine_at-neg k t = rw (quadrant-neg k, rest_sine-neg t, rest_cosine-neg t) (turned_cosine-neg (rest_sine t) (rest_cosine t) (quadrant k) (quadrant-below k))
+cosine_at-neg k t = rw (quadrant-neg k, rest_sine-neg t, rest_cosine-neg t) (quadrant_cosine-neg (rest_sine t) (rest_cosine t) (quadrant k) (quadrant-below k))
 
 -- the sine is odd, and the cosine even
 pub sine-neg : (x : ℤ) → sine (neg_ℤ x) ≡ neg_ℤ (sine x)

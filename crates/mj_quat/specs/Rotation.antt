@@ -1,129 +1,150 @@
--- Rotations by quaternions (w, x, y, z) at scale 32, each number rounded once. The usual formulas, rounded by this project's own rule.
-use Rattle.std.specs.Prelude.{◌≡◌, ℕ, ◌^◌, ◌≤◌, ℤ, pos, ◌+ℤ◌, ◌-ℤ◌, ◌*ℤ◌, ◌⊎◌, ◌<ℤ◌, ◌≤ℤ◌, unsigned_abs}
+-- Rotations by quaternions (w, x, y, z) at scale 32, each number rounded once. The usual formulas (the
+-- Hamilton product, a rotation's matrix, its axis and angle), rounded by this project's own rule.
+use Rattle.std.specs.Prelude.{◌^◌, ◌+◌, ◌≤◌, ℕ, ℤ, pos, ◌+ℤ◌, ◌-ℤ◌, ◌*ℤ◌, unsigned_abs, Bool, ◌&&◌, cond, int_le, int_lt, Option, Some, None}
 use Rattle.fx_whole.specs.Nearest.{nearest}
 use Rattle.fx_whole.specs.Roots.{isqrt}
+use Rattle.fx_num.specs.Settled.{settled_mid}
+use Rattle.fx_num.specs.declared.carry.Over.{Over}
+use Rattle.fx_num.specs.declared.carry.Over.TheVariants.{Value}
 use Rattle.fx_vec.specs.Vectors.{Triple, dot}
-use Rattle.fx_vec.specs.declared.vector.Q4.{Q4}
+use Rattle.fx_vec.specs.Settling.{stretched, along}
+use Rattle.fx_vec.specs.Sizes.{Within}
+use Rattle.fx_vec.specs.Views.{mids}
+use Rattle.fx_vec.specs.declared.vector.M3.{M3}
+pub use Rattle.fx_vec.specs.Quaternions.{Quaternion, quaternion, WithinQuaternion}
 use Rattle.mj_quat.specs.Sine.{sine, cosine}
 
-pub record Quaternion : Type 0 where
-  pub w : ℤ
-  pub x : ℤ
-  pub y : ℤ
-  pub z : ℤ
-
--- the numbers of a quaternion of the code
-abbrev pub quaternion : Q4 → Quaternion
-quaternion q = record { w = q.w.mid; x = q.x.mid; y = q.y.mid; z = q.z.mid }
-
 -- an exact sum of products at scale 64, rounded to scale 32
-abbrev pub settled : ℤ → ℤ
-settled n = nearest n (pos (2 ^ 32))
+abbrev pub round : ℤ → ℤ
+round n = settled_mid n 32
 
 -- the Hamilton product a b
-abbrev pub composed : Quaternion → Quaternion → Quaternion
-composed a b = record {
-  w = settled (a.w *ℤ b.w -ℤ a.x *ℤ b.x -ℤ a.y *ℤ b.y -ℤ a.z *ℤ b.z);
-  x = settled (a.w *ℤ b.x +ℤ a.x *ℤ b.w +ℤ a.y *ℤ b.z -ℤ a.z *ℤ b.y);
-  y = settled (a.w *ℤ b.y -ℤ a.x *ℤ b.z +ℤ a.y *ℤ b.w +ℤ a.z *ℤ b.x);
-  z = settled (a.w *ℤ b.z +ℤ a.x *ℤ b.y -ℤ a.y *ℤ b.x +ℤ a.z *ℤ b.w);
+unfoldable pub product : Quaternion → Quaternion → Quaternion
+product a b = record {
+  w = round (a.w *ℤ b.w -ℤ a.x *ℤ b.x -ℤ a.y *ℤ b.y -ℤ a.z *ℤ b.z);
+  x = round (a.w *ℤ b.x +ℤ a.x *ℤ b.w +ℤ a.y *ℤ b.z -ℤ a.z *ℤ b.y);
+  y = round (a.w *ℤ b.y -ℤ a.x *ℤ b.z +ℤ a.y *ℤ b.w +ℤ a.z *ℤ b.x);
+  z = round (a.w *ℤ b.z +ℤ a.x *ℤ b.y -ℤ a.y *ℤ b.x +ℤ a.z *ℤ b.w);
 }
+
+-- ---- matrices
+-- the rows of a matrix of the code
+abbrev pub rows : M3 → Triple (Triple ℤ)
+rows m = record { x = mids m.a; y = mids m.b; z = mids m.c }
 
 -- the rotation's matrix, by its rows
-abbrev pub row_x : Quaternion → Triple ℤ
+unfoldable pub row_x : Quaternion → Triple ℤ
 row_x q = record {
-  x = settled (pos (2 ^ 64) -ℤ pos 2 *ℤ (q.y *ℤ q.y +ℤ q.z *ℤ q.z));
-  y = settled (pos 2 *ℤ (q.x *ℤ q.y -ℤ q.w *ℤ q.z));
-  z = settled (pos 2 *ℤ (q.x *ℤ q.z +ℤ q.w *ℤ q.y));
+  x = round (pos (2 ^ 64) -ℤ pos 2 *ℤ (q.y *ℤ q.y +ℤ q.z *ℤ q.z));
+  y = round (pos 2 *ℤ (q.x *ℤ q.y -ℤ q.w *ℤ q.z));
+  z = round (pos 2 *ℤ (q.x *ℤ q.z +ℤ q.w *ℤ q.y));
 }
 
-abbrev pub row_y : Quaternion → Triple ℤ
+unfoldable pub row_y : Quaternion → Triple ℤ
 row_y q = record {
-  x = settled (pos 2 *ℤ (q.x *ℤ q.y +ℤ q.w *ℤ q.z));
-  y = settled (pos (2 ^ 64) -ℤ pos 2 *ℤ (q.x *ℤ q.x +ℤ q.z *ℤ q.z));
-  z = settled (pos 2 *ℤ (q.y *ℤ q.z -ℤ q.w *ℤ q.x));
+  x = round (pos 2 *ℤ (q.x *ℤ q.y +ℤ q.w *ℤ q.z));
+  y = round (pos (2 ^ 64) -ℤ pos 2 *ℤ (q.x *ℤ q.x +ℤ q.z *ℤ q.z));
+  z = round (pos 2 *ℤ (q.y *ℤ q.z -ℤ q.w *ℤ q.x));
 }
 
-abbrev pub row_z : Quaternion → Triple ℤ
+unfoldable pub row_z : Quaternion → Triple ℤ
 row_z q = record {
-  x = settled (pos 2 *ℤ (q.x *ℤ q.z -ℤ q.w *ℤ q.y));
-  y = settled (pos 2 *ℤ (q.y *ℤ q.z +ℤ q.w *ℤ q.x));
-  z = settled (pos (2 ^ 64) -ℤ pos 2 *ℤ (q.x *ℤ q.x +ℤ q.y *ℤ q.y));
+  x = round (pos 2 *ℤ (q.x *ℤ q.z -ℤ q.w *ℤ q.y));
+  y = round (pos 2 *ℤ (q.y *ℤ q.z +ℤ q.w *ℤ q.x));
+  z = round (pos (2 ^ 64) -ℤ pos 2 *ℤ (q.x *ℤ q.x +ℤ q.y *ℤ q.y));
 }
 
--- the matrix times v
-abbrev pub rotated : Quaternion → Triple ℤ → Triple ℤ
-rotated q v = record { x = settled (dot (row_x q) v); y = settled (dot (row_y q) v); z = settled (dot (row_z q) v) }
+abbrev pub matrix : Quaternion → Triple (Triple ℤ)
+matrix q = record { x = row_x q; y = row_y q; z = row_z q }
 
--- a quaternion's length
-abbrev pub quaternion_length : Quaternion → ℤ
-quaternion_length q = isqrt (q.w *ℤ q.w +ℤ q.x *ℤ q.x +ℤ q.y *ℤ q.y +ℤ q.z *ℤ q.z)
+-- each number of a matrix is at most that in size
+pub record WithinRows (m : Triple (Triple ℤ)) (limit : ℕ) : Type 0 where
+  pub x : Within m.x limit
+  pub y : Within m.y limit
+  pub z : Within m.z limit
+
+-- a matrix times v
+abbrev pub rotate_by : Triple (Triple ℤ) → Triple ℤ → Triple ℤ
+rotate_by m v = record { x = along m.x v; y = along m.y v; z = along m.z v }
+
+-- v rotated by q
+abbrev pub rotate : Quaternion → Triple ℤ → Triple ℤ
+rotate q v = rotate_by (matrix q) v
+
+-- ---- lengths
+-- the square of a quaternion's length, at scale 64
+abbrev pub square_sum : Quaternion → ℤ
+square_sum q = q.w *ℤ q.w +ℤ q.x *ℤ q.x +ℤ q.y *ℤ q.y +ℤ q.z *ℤ q.z
+
+unfoldable pub quaternion_length : Quaternion → ℤ
+quaternion_length q = isqrt (square_sum q)
+
+unfoldable pub vector_length : Triple ℤ → ℤ
+vector_length v = isqrt (dot v v)
+
+-- the square of its length is 1, to within 2^-29 and one unit more
+pub record IsUnit (q : Quaternion) : Type 0 where
+  pub near : unsigned_abs (square_sum q -ℤ pos (2 ^ 64)) ≤ 2 ^ 35 + 1
 
 -- n over a length, at scale 32
 abbrev pub over : ℤ → ℤ → ℤ
 over n length = nearest (n *ℤ pos (2 ^ 32)) length
 
--- and a quaternion over it
 abbrev pub quaternion_over : Quaternion → ℤ → Quaternion
-quaternion_over q length = record { w = over q.w length; x = over q.x length; y = over q.y length; z = over q.z length }
-
--- made a unit
-abbrev pub renormed : Quaternion → Quaternion
-renormed q = quaternion_over q (quaternion_length q)
-
--- the same of a vector
-abbrev pub vector_length : Triple ℤ → ℤ
-vector_length v = isqrt (dot v v)
+quaternion_over q length = record {
+  w = over q.w length;
+  x = over q.x length;
+  y = over q.y length;
+  z = over q.z length;
+}
 
 abbrev pub vector_over : Triple ℤ → ℤ → Triple ℤ
 vector_over v length = record { x = over v.x length; y = over v.y length; z = over v.z length }
 
-abbrev pub unit_of : Triple ℤ → Triple ℤ
-unit_of v = vector_over v (vector_length v)
+-- a quaternion and a vector over their own lengths
+abbrev pub unit_quaternion : Quaternion → Quaternion
+unit_quaternion q = quaternion_over q (quaternion_length q)
 
+abbrev pub unit_vector : Triple ℤ → Triple ℤ
+unit_vector v = vector_over v (vector_length v)
+
+-- the refusal of a length that isn't from `least` to `most`
+abbrev pub is_inside : ℤ → ℤ → ℤ → Bool
+is_inside least most length = int_le least length && int_le length most
+
+abbrev pub length_out : ℤ → ℤ → ℤ → Option Over
+length_out least most length = cond (is_inside least most length) None (Some Value)
+
+-- and of one that is below `least`
+abbrev pub length_below : ℤ → ℤ → Option Over
+length_below least length = cond (int_le least length) None (Some Value)
+
+-- ---- turning
 abbrev pub half : ℤ → ℤ
 half angle = nearest angle (pos 2)
 
 -- the rotation about an axis by an angle: the cosine of half of it, and the axis times its sine
-abbrev pub about : Triple ℤ → ℤ → Quaternion
-about axis angle = record {
+unfoldable pub axis_angle : Triple ℤ → ℤ → Quaternion
+axis_angle axis angle = record {
   w = cosine (half angle);
-  x = settled (axis.x *ℤ sine (half angle));
-  y = settled (axis.y *ℤ sine (half angle));
-  z = settled (axis.z *ℤ sine (half angle));
+  x = round (axis.x *ℤ sine (half angle));
+  y = round (axis.y *ℤ sine (half angle));
+  z = round (axis.z *ℤ sine (half angle));
 }
 
--- the rotation vector of the angular velocity v over the time h
-abbrev pub turn : Triple ℤ → ℤ → Triple ℤ
-turn v h = record { x = settled (v.x *ℤ h); y = settled (v.y *ℤ h); z = settled (v.z *ℤ h) }
+-- q times the rotation with that rotation vector, which isn't 0: the vector's length is the angle
+abbrev pub turn : Quaternion → Triple ℤ → Quaternion
+turn q v = product q (axis_angle (unit_vector v) (vector_length v))
 
--- q turned by a rotation vector that isn't 0, before it is made a unit again
-abbrev pub turned_by : Quaternion → Triple ℤ → Quaternion
-turned_by q v = composed q (about (unit_of v) (vector_length v))
+-- whether a rotation vector has a length, as that is rounded
+abbrev pub turns : Triple ℤ → Bool
+turns v = int_lt (pos 0) (vector_length v)
 
--- a length outside of its bounds
-abbrev pub Outside : ℤ → ℤ → ℤ → Type 0
-Outside least most length = (length <ℤ least) ⊎ (most <ℤ length)
+-- q after the time h at the angular velocity w, in the frame that turns with q: w h is the rotation vector
+abbrev pub advance : Quaternion → Triple ℤ → ℤ → Quaternion
+advance q w h = cond (turns (stretched w h)) (unit_quaternion (turn q (stretched w h))) q
 
--- and one within them
-abbrev pub Inside : ℤ → ℤ → ℤ → Type 0
-Inside least most length = (least ≤ℤ length) × (length ≤ℤ most)
-
--- a and b are equal
-pub record SameQuaternion (a b : Quaternion) : Type 0 where
-  pub w : a.w ≡ b.w
-  pub x : a.x ≡ b.x
-  pub y : a.y ≡ b.y
-  pub z : a.z ≡ b.z
-
-pub record SameVector (a b : Triple ℤ) : Type 0 where
-  pub x : a.x ≡ b.x
-  pub y : a.y ≡ b.y
-  pub z : a.z ≡ b.z
-
--- each number of it is at most that in size
-pub record WithinQuaternion (q : Quaternion) (limit : ℕ) : Type 0 where
-  pub w : unsigned_abs q.w ≤ limit
-  pub x : unsigned_abs q.x ≤ limit
-  pub y : unsigned_abs q.y ≤ limit
-  pub z : unsigned_abs q.z ≤ limit
+-- its refusal: the turned quaternion's length isn't from 1/2 to 2
+abbrev pub advance_out : Quaternion → Triple ℤ → ℤ → Option Over
+advance_out q w h = cond (turns (stretched w h))
+    (length_out (pos (2 ^ 31)) (pos (2 ^ 33)) (quaternion_length (turn q (stretched w h)))) None

@@ -1,4 +1,4 @@
--- Sine and cosine of an angle at scale 32, in whole numbers, each at scale 32: this project's own, by quarter turns and two power series.
+-- Sine and cosine of an angle at scale 32, in integers, each at scale 32: this project's own, by quarter turns and two power series.
 use Rattle.std.specs.Prelude.{ℕ, zero, suc, ◌+◌, ◌*◌, ◌^◌, ℤ, pos, ◌-ℤ◌, ◌*ℤ◌, neg_ℤ, unsigned_abs, ◌==◌, if◌then◌else◌}
 use Rattle.std.specs.Int.{int_rem_euclid}
 use Rattle.fx_whole.specs.Nearest.{nearest}
@@ -57,18 +57,18 @@ abbrev pub quadrant : ℤ → ℕ
 quadrant k = unsigned_abs (int_rem_euclid k (pos 4))
 
 -- the sine and the cosine some quarter turns past an angle whose sine is s and whose cosine is c
-abbrev pub turned_sine : ℕ → ℤ → ℤ → ℤ
-turned_sine quadrant s c = if quadrant == 0 then s else (if quadrant == 1 then c else (if quadrant == 2 then neg_ℤ s else neg_ℤ c))
+abbrev pub quadrant_sine : ℕ → ℤ → ℤ → ℤ
+quadrant_sine quadrant s c = if quadrant == 0 then s else (if quadrant == 1 then c else (if quadrant == 2 then neg_ℤ s else neg_ℤ c))
 
-abbrev pub turned_cosine : ℕ → ℤ → ℤ → ℤ
-turned_cosine quadrant s c = if quadrant == 0 then c else (if quadrant == 1 then neg_ℤ s else (if quadrant == 2 then neg_ℤ c else s))
+abbrev pub quadrant_cosine : ℕ → ℤ → ℤ → ℤ
+quadrant_cosine quadrant s c = if quadrant == 0 then c else (if quadrant == 1 then neg_ℤ s else (if quadrant == 2 then neg_ℤ c else s))
 
 -- k quarter turns past t
 abbrev pub sine_at : ℤ → ℤ → ℤ
-sine_at k t = turned_sine (quadrant k) (rest_sine t) (rest_cosine t)
+sine_at k t = quadrant_sine (quadrant k) (rest_sine t) (rest_cosine t)
 
 abbrev pub cosine_at : ℤ → ℤ → ℤ
-cosine_at k t = turned_cosine (quadrant k) (rest_sine t) (rest_cosine t)
+cosine_at k t = quadrant_cosine (quadrant k) (rest_sine t) (rest_cosine t)
 
 -- the sine and the cosine of the angle x
 unfoldable pub sine : ℤ → ℤ

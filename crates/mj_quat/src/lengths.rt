@@ -1,10 +1,12 @@
 // Lengths of quaternions and of vectors, and units made of them.
-ghost use Rattle.std.specs.Prelude.{◌≡◌, ℕ, ◌+◌, ◌*◌, ◌^◌, ◌<◌, ◌≤◌, pos, ◌+ℤ◌, ◌*ℤ◌, ◌<ℤ◌, ◌≤ℤ◌, unsigned_abs, IfOk, IfErr, MatchBool};
+ghost use Rattle.std.specs.Prelude.{◌≡◌, ℕ, ◌+◌, ◌*◌, ◌^◌, ◌<◌, ◌≤◌, pos, ◌+ℤ◌, ◌*ℤ◌, ◌<ℤ◌, ◌≤ℤ◌, unsigned_abs, IfOk};
+ghost use Rattle.fx_whole.specs.First.{refusal_of};
+ghost use Rattle.fx_whole.specs.Roots as roots;
+ghost use Rattle.fx_vec.specs.Quaternions.{quaternion, WithinQuaternion};
 ghost use Rattle.fx_vec.specs.Vectors.{dot};
 ghost use Rattle.fx_vec.specs.Sizes.{Within};
 ghost use Rattle.fx_vec.specs.Views.{mids};
-ghost use Rattle.fx_num.specs.declared.carry.Over.TheVariants.{Value};
-ghost use Rattle.mj_quat.specs.Rotation.{quaternion, quaternion_length as quaternion_length_lem, quaternion_over as quaternion_over_lem, renormed, over as over_lem, vector_length as vector_length_lem, vector_over as vector_over_lem, unit_of, Inside, Outside, SameQuaternion, SameVector, WithinQuaternion};
+ghost use Rattle.mj_quat.specs.Rotation as spec;
 
 use fx_num::{Fix, Over, Plain, none};
 use fx_vec::{Q4, V3, Vector3, dot_into};
@@ -22,7 +24,9 @@ fn square(n: &Fix<32>) -> i128
 /// The sum of a quaternion's squares.
 fn square_sum(q: &Q4) -> i128
     requires { WithinQuaternion (quaternion q.now) (2 ^ 44) }
-    ensures { result ≡ q.now.w.mid *ℤ q.now.w.mid +ℤ q.now.x.mid *ℤ q.now.x.mid +ℤ q.now.y.mid *ℤ q.now.y.mid +ℤ q.now.z.mid *ℤ q.now.z.mid }
+    ensures value { result ≡ spec.square_sum (quaternion q.now) }
+    ensures not_negative { pos 0 ≤ℤ result }
+    ensures size { unsigned_abs result ≤ 2 ^ 90 }
 {
     sum(
         sum(sum(square(&q.w), square(&q.x)), square(&q.y)),
@@ -30,51 +34,67 @@ fn square_sum(q: &Q4) -> i128
     )
 }
 
-/// A quaternion's length, rounded down. None of its numbers is larger.
-fn quaternion_length(q: &Q4) -> i128
-    requires { WithinQuaternion (quaternion q.now) (2 ^ 44) }
-    ensures value { result ≡ quaternion_length_lem (quaternion q.now) }
-    ensures covers { WithinQuaternion (quaternion q.now) (unsigned_abs result) }
+/// The root of a sum of squares.
+fn root(n: &i128) -> Fix<32>
+    requires not_negative { pos 0 ≤ℤ n.now }
+    requires size { unsigned_abs n.now < 2 ^ 124 }
+    ensures { result.mid ≡ roots.isqrt n.now }
 {
-    isqrt(square_sum(q))
+    Fix::from_raw(narrow(isqrt(*n)))
+}
+
+/// A quaternion's length, rounded down. None of its numbers is larger.
+#[tactic(auto, unfolding(crate::specs::Rotation::quaternion_length))]
+fn quaternion_length(q: &Q4) -> Fix<32>
+    requires { WithinQuaternion (quaternion q.now) (2 ^ 44) }
+    ensures value { result.mid ≡ spec.quaternion_length (quaternion q.now) }
+    ensures covers { WithinQuaternion (quaternion q.now) (unsigned_abs result.mid) }
+{
+    root(&square_sum(q))
 }
 
 /// The sum of a vector's squares.
 fn vector_square(v: &V3<Plain, 32>) -> i128
     requires { Within (mids v.now) (2 ^ 60) }
-    ensures { result ≡ dot (mids v.now) (mids v.now) }
+    ensures value { result ≡ dot (mids v.now) (mids v.now) }
+    ensures not_negative { pos 0 ≤ℤ result }
+    ensures size { unsigned_abs result ≤ 3 * 2 ^ 120 }
 {
     let mut total = none::<Plain, 64>();
     dot_into::<Plain, 32, 32, 64>(v, v, &mut total);
     total.mid
 }
 
-/// A vector's length, rounded down. None of its numbers is larger, and it is at most twice the largest.
-pub(crate) fn vector_length(v: &V3<Plain, 32>) -> i128
+/// A vector's length, rounded down. None of its numbers is larger, and it is at most twice the
+/// largest.
+#[tactic(auto, unfolding(crate::specs::Rotation::vector_length))]
+pub fn vector_length(v: &V3<Plain, 32>) -> Fix<32>
     requires { Within (mids v.now) (2 ^ 60) }
-    ensures value { result ≡ vector_length_lem (mids v.now) }
-    ensures not_negative { pos 0 ≤ℤ result }
-    ensures covers { Within (mids v.now) (unsigned_abs result) }
-    ensures bound { (limit : ℕ) → Within (mids v.now) limit → unsigned_abs result ≤ 2 * limit }
+    ensures value { result.mid ≡ spec.vector_length (mids v.now) }
+    ensures not_negative { pos 0 ≤ℤ result.mid }
+    ensures covers { Within (mids v.now) (unsigned_abs result.mid) }
+    ensures bound { (limit : ℕ) → Within (mids v.now) limit
+        → unsigned_abs result.mid ≤ 2 * limit }
+    ensures near { Within (mids v.now) (2 ^ 47) → unsigned_abs result.mid ≤ 2 ^ 48 }
 {
-    isqrt(vector_square(v))
+    root(&vector_square(v))
 }
 
 /// `n / length` at scale 32, rounded.
-fn over(n: &Fix<32>, length: &i128) -> Fix<32>
-    requires positive { pos 0 <ℤ length.now }
-    requires covers { unsigned_abs n.now.mid ≤ unsigned_abs length.now }
-    ensures value { result.mid ≡ over_lem n.now.mid length.now }
+fn over(n: &Fix<32>, length: &Fix<32>) -> Fix<32>
+    requires positive { pos 0 <ℤ length.now.mid }
+    requires covers { unsigned_abs n.now.mid ≤ unsigned_abs length.now.mid }
+    ensures value { result.mid ≡ spec.over n.now.mid length.now.mid }
     ensures size { unsigned_abs result.mid ≤ 2 ^ 32 }
 {
-    Fix::from_raw(narrow(nearest(scaled(n.mid, 32), *length)))
+    Fix::from_raw(narrow(nearest(scaled(n.mid, 32), i128::from(length.mid))))
 }
 
-/// A quaternion over a length.
-fn quaternion_over(q: &Q4, length: &i128) -> Q4
-    requires positive { pos 0 <ℤ length.now }
-    requires covers { WithinQuaternion (quaternion q.now) (unsigned_abs length.now) }
-    ensures value { SameQuaternion (quaternion result) (quaternion_over_lem (quaternion q.now) length.now) }
+/// A quaternion over a length that none of its numbers passes, each number rounded once.
+fn quaternion_over(q: &Q4, length: &Fix<32>) -> Q4
+    requires positive { pos 0 <ℤ length.now.mid }
+    requires covers { WithinQuaternion (quaternion q.now) (unsigned_abs length.now.mid) }
+    ensures value { quaternion result ≡ spec.quaternion_over (quaternion q.now) length.now.mid }
     ensures size { WithinQuaternion (quaternion result) (2 ^ 32) }
 {
     Q4 {
@@ -85,11 +105,11 @@ fn quaternion_over(q: &Q4, length: &i128) -> Q4
     }
 }
 
-/// A vector over a length.
-pub(crate) fn vector_over(v: &V3<Plain, 32>, length: &i128) -> V3<Plain, 32>
-    requires positive { pos 0 <ℤ length.now }
-    requires covers { Within (mids v.now) (unsigned_abs length.now) }
-    ensures value { SameVector (mids result) (vector_over_lem (mids v.now) length.now) }
+/// A vector over a length that none of its numbers passes, each number rounded once.
+pub fn vector_over(v: &V3<Plain, 32>, length: &Fix<32>) -> V3<Plain, 32>
+    requires positive { pos 0 <ℤ length.now.mid }
+    requires covers { Within (mids v.now) (unsigned_abs length.now.mid) }
+    ensures value { mids result ≡ spec.vector_over (mids v.now) length.now.mid }
     ensures size { Within (mids result) (2 ^ 32) }
 {
     Vector3 {
@@ -100,26 +120,24 @@ pub(crate) fn vector_over(v: &V3<Plain, 32>, length: &i128) -> V3<Plain, 32>
 }
 
 /// Whether a length is within its bounds.
-fn is_inside(length: &i128, least: &i64, most: &i64) -> bool
-    ensures { MatchBool result (Inside least.now most.now length.now) (Outside least.now most.now length.now) }
+fn is_inside(length: &Fix<32>, least: &i64, most: &i64) -> bool
+    ensures { result ≡ spec.is_inside least.now most.now length.now.mid }
 {
-    if *length < i128::from(*least) {
-        false
-    } else {
-        *length <= i128::from(*most)
-    }
+    *least <= length.mid && length.mid <= *most
 }
 
-/// `q` over its length, each number rounded once and at most 1. `Over::Value` exactly where its length
-/// (rounded down) is below `least` or above `most`.
+/// `q` over its length, each number rounded once and at most 1. `Over::Value` exactly where its
+/// length (rounded down) is below `least` or above `most`. From a length of 1/2 on the answer is a
+/// unit.
 pub fn renorm(q: &Q4, least: i64, most: i64) -> Result<Q4, Over>
     requires size { WithinQuaternion (quaternion q.now) (2 ^ 44) }
     requires least { pos 1 ≤ℤ least }
     requires most { least ≤ℤ most }
-    ensures value { IfOk result (λ r. SameQuaternion (quaternion r) (renormed (quaternion q.now))) }
+    ensures value { IfOk result (λ r. quaternion r ≡ spec.unit_quaternion (quaternion q.now)) }
     ensures size { IfOk result (λ r. WithinQuaternion (quaternion r) (2 ^ 32)) }
-    ensures inside { IfOk result (λ _. Inside least most (quaternion_length_lem (quaternion q.now))) }
-    ensures refusal { IfErr result (λ e. (e ≡ Value) × Outside least most (quaternion_length_lem (quaternion q.now))) }
+    ensures unit { pos (2 ^ 31) ≤ℤ least → IfOk result (λ r. spec.IsUnit (quaternion r)) }
+    ensures first { refusal_of result
+        ≡ spec.length_out least most (spec.quaternion_length (quaternion q.now)) }
 {
     let length = quaternion_length(q);
     if is_inside(&length, &least, &most) {
@@ -129,20 +147,20 @@ pub fn renorm(q: &Q4, least: i64, most: i64) -> Result<Q4, Over>
     }
 }
 
-/// `x` over its length, each number rounded once and at most 1. `Over::Value` exactly where its length
-/// (rounded down) is below `least`.
+/// `x` over its length, each number rounded once and at most 1. `Over::Value` exactly where its
+/// length (rounded down) is below `least`.
 pub fn unit(x: &V3<Plain, 32>, least: i64) -> Result<V3<Plain, 32>, Over>
     requires size { Within (mids x.now) (2 ^ 60) }
     requires least { pos 1 ≤ℤ least }
-    ensures value { IfOk result (λ r. SameVector (mids r) (unit_of (mids x.now))) }
+    ensures value { IfOk result (λ r. mids r ≡ spec.unit_vector (mids x.now)) }
     ensures size { IfOk result (λ r. Within (mids r) (2 ^ 32)) }
-    ensures enough { IfOk result (λ _. least ≤ℤ vector_length_lem (mids x.now)) }
-    ensures refusal { IfErr result (λ e. (e ≡ Value) × (vector_length_lem (mids x.now) <ℤ least)) }
+    ensures first { refusal_of result
+        ≡ spec.length_below least (spec.vector_length (mids x.now)) }
 {
     let length = vector_length(x);
-    if length < i128::from(least) {
-        Err(Over::Value)
-    } else {
+    if least <= length.mid {
         Ok(vector_over(x, &length))
+    } else {
+        Err(Over::Value)
     }
 }

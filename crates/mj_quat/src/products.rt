@@ -1,9 +1,9 @@
 // Sums of products of a few numbers, exact at scale 64 and then rounded to scale 32.
 ghost use Rattle.std.specs.Prelude.{◌≡◌, ℕ, ◌+◌, ◌*◌, ◌^◌, ◌<◌, ◌≤◌, pos, ◌+ℤ◌, ◌-ℤ◌, ◌*ℤ◌, unsigned_abs};
-ghost use Rattle.fx_vec.specs.Vectors.{dot};
+ghost use Rattle.fx_vec.specs.Settling as settling;
 ghost use Rattle.fx_vec.specs.Sizes.{Within};
 ghost use Rattle.fx_vec.specs.Views.{mids};
-ghost use Rattle.mj_quat.specs.Rotation.{settled as settled_lem};
+ghost use Rattle.mj_quat.specs.Rotation as spec;
 
 use fx_num::{Fix, Plain, none};
 use fx_vec::{V3, dot_into};
@@ -44,51 +44,54 @@ pub(crate) fn pair_difference(a: &Fix<32>, b: &Fix<32>, c: &Fix<32>, d: &Fix<32>
 }
 
 /// A sum at scale 64, rounded to scale 32.
-pub(crate) fn settled(n: &i128) -> Fix<32>
+pub(crate) fn round(n: &i128) -> Fix<32>
     requires { unsigned_abs n.now ≤ 2 ^ 94 }
-    ensures value { result.mid ≡ settled_lem n.now }
+    ensures { result.mid ≡ spec.round n.now }
 {
     Fix::from_raw(narrow(nearest_shift(*n, 32)))
 }
 
 /// `a + b`, rounded.
-pub(crate) fn settled_sum(a: &i128, b: &i128) -> Fix<32>
+pub(crate) fn round_sum(a: &i128, b: &i128) -> Fix<32>
     requires a { unsigned_abs a.now ≤ 2 ^ 66 }
     requires b { unsigned_abs b.now ≤ 2 ^ 66 }
-    ensures value { result.mid ≡ settled_lem (a.now +ℤ b.now) }
+    ensures value { result.mid ≡ spec.round (a.now +ℤ b.now) }
     ensures size { unsigned_abs result.mid ≤ 2 ^ 35 }
 {
-    settled(&sum(*a, *b))
+    round(&sum(*a, *b))
 }
 
 /// `a - b`, rounded.
-pub(crate) fn settled_difference(a: &i128, b: &i128) -> Fix<32>
+pub(crate) fn round_difference(a: &i128, b: &i128) -> Fix<32>
     requires a { unsigned_abs a.now ≤ 2 ^ 66 }
     requires b { unsigned_abs b.now ≤ 2 ^ 66 }
-    ensures value { result.mid ≡ settled_lem (a.now -ℤ b.now) }
+    ensures value { result.mid ≡ spec.round (a.now -ℤ b.now) }
     ensures size { unsigned_abs result.mid ≤ 2 ^ 35 }
 {
-    settled(&difference(*a, *b))
+    round(&difference(*a, *b))
 }
 
 /// `a b` for a factor `b` that is at most 1, rounded: no larger than `a`.
-pub(crate) fn settled_product(a: &Fix<32>, b: &Fix<32>) -> Fix<32>
+pub(crate) fn round_product(a: &Fix<32>, b: &Fix<32>) -> Fix<32>
     requires a { unsigned_abs a.now.mid ≤ 2 ^ 60 }
     requires b { unsigned_abs b.now.mid ≤ 2 ^ 32 }
-    ensures value { result.mid ≡ settled_lem (a.now.mid *ℤ b.now.mid) }
+    ensures value { result.mid ≡ spec.round (a.now.mid *ℤ b.now.mid) }
     ensures size { unsigned_abs result.mid ≤ unsigned_abs a.now.mid }
 {
-    settled(&product(a.mid, b.mid))
+    round(&product(a.mid, b.mid))
 }
 
 /// A matrix's row times a vector, rounded.
-pub(crate) fn settled_dot(row: &V3<Plain, 32>, v: &V3<Plain, 32>) -> Fix<32>
+pub(crate) fn round_dot(row: &V3<Plain, 32>, v: &V3<Plain, 32>) -> Fix<32>
     requires row { Within (mids row.now) (2 ^ 35) }
     requires v { Within (mids v.now) (2 ^ 46) }
-    ensures value { result.mid ≡ settled_lem (dot (mids row.now) (mids v.now)) }
-    ensures size { (limit : ℕ) → Within (mids v.now) limit → unsigned_abs result.mid ≤ 24 * limit }
+    ensures value { result.mid ≡ settling.along (mids row.now) (mids v.now) }
+    ensures size { (limit : ℕ) → Within (mids v.now) limit
+        → unsigned_abs result.mid ≤ 24 * limit }
+    ensures sharp { (limit : ℕ) → Within (mids row.now) (2 ^ 32 + 16)
+        → Within (mids v.now) limit → unsigned_abs result.mid ≤ 4 * limit }
 {
     let mut total = none::<Plain, 64>();
     dot_into::<Plain, 32, 32, 64>(row, v, &mut total);
-    settled(&total.mid)
+    round(&total.mid)
 }

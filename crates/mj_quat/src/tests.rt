@@ -1,6 +1,6 @@
 mod at_band;
 
-use crate::{advance, axis_angle, compose, matrix, renorm, rotate, unit};
+use crate::{advance, axis_angle, compose, matrix, renorm, rotate, unit, vector_length};
 use fx_num::{Fix, Number, Over};
 use fx_vec::{M3, Q4, Vector3};
 
@@ -66,8 +66,8 @@ fn identity_has_the_identity_matrix(rt: HostRuntime) {
     );
 }
 
-// A quarter turn about the third axis: w = z = 3037000500, so 2 w z = 2 z z = 18446744074000500000, which
-// is 4294967296 when it is rounded to scale 32, as 1 is.
+// A quarter turn about the third axis: w = z = 3037000500, so 2 w z = 2 z z =
+// 18446744074000500000, which is 4294967296 when it is rounded to scale 32, as 1 is.
 #[test]
 fn a_quarter_turn_takes_the_first_axis_to_the_second(rt: HostRuntime) {
     let q = quaternion!(3037000500, 0, 0, 3037000500);
@@ -95,6 +95,7 @@ fn unit_refuses_below_its_bound(rt: HostRuntime) {
         Ok(vector!(2576980378, 3435973837, 0))
     );
     assert_eq!(rt; unit(&x, 21474836481), Err(Over::Value));
+    assert_eq!(rt; vector_length(&x), Fix::from_raw(5 * ONE));
 }
 
 // The nearest to pi is 13493037705, and to half of it 6746518852, whose sine is 1 and cosine 0.

@@ -1,13 +1,14 @@
 use Rattle.std.proofs.Common.{◌≡◌, ◌+ℤ◌, ◌-ℤ◌, ◌*ℤ◌, ◌∙◌, to_z, of_z, ap, rules}
 use mir.Syntax.{w128}
-use Rattle.mj_quat.specs.Rotation.{settled}
+use Rattle.mj_quat.specs.Rotation.{round, product}
 use Rattle.mj_quat.proofs.RotationLaws.{hamilton_w}
 use Rattle.mj_quat.proofs.hamilton.real_part.Goals as goal
 
 pub returns-clause-value : goal.returns-clause-value
+unfolding product
 returns-clause-value c =
     let a = c.args.a.now in
     let b = c.args.b.now in
     let first : to_z w128 (of_z w128 c.pair_difference-first.result) ≡ a.w.mid *ℤ b.w.mid -ℤ a.x.mid *ℤ b.x.mid = search rules in
     let second : to_z w128 (of_z w128 c.pair_sum-second.result) ≡ a.y.mid *ℤ b.y.mid +ℤ a.z.mid *ℤ b.z.mid = search rules in
-    c.settled_difference.ensures.value ∙ ap settled (hamilton_w _ _ (a.w.mid *ℤ b.w.mid) (a.x.mid *ℤ b.x.mid) (a.y.mid *ℤ b.y.mid) (a.z.mid *ℤ b.z.mid) first second)
+    c.round_difference.ensures.value ∙ ap round (hamilton_w _ _ (a.w.mid *ℤ b.w.mid) (a.x.mid *ℤ b.x.mid) (a.y.mid *ℤ b.y.mid) (a.z.mid *ℤ b.z.mid) first second)

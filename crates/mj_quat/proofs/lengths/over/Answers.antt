@@ -6,10 +6,10 @@ use Rattle.mj_quat.proofs.lengths.over.Goals as goal
 
 pub narrow-requires : goal.narrow-requires
 narrow-requires c =
-    let v : to_z w128 (of_z w128 c.nearest.result) ≡ over c.args.n.now.mid c.args.length.now = search rules in
-    omega (arith, ap unsigned_abs v, over-le c.args.n.now.mid c.args.length.now c.requires.covers)
+    let v : to_z w128 (of_z w128 c.nearest.result) ≡ over c.args.n.now.mid c.args.length.now.mid = search rules in
+    omega (arith, ap unsigned_abs v, over-le c.args.n.now.mid c.args.length.now.mid c.requires.covers)
 
 pub returns-clause-size : goal.returns-clause-size
 returns-clause-size c =
-    let v : c.from_raw.result.mid ≡ over c.args.n.now.mid c.args.length.now = search rules in
-    omega (arith, ap unsigned_abs v, over-le c.args.n.now.mid c.args.length.now c.requires.covers)
+    let v : c.from_raw.result.mid ≡ over c.args.n.now.mid c.args.length.now.mid = search rules in
+    omega (arith, ap unsigned_abs v, over-le c.args.n.now.mid c.args.length.now.mid c.requires.covers)

@@ -1,9 +1,11 @@
-use Rattle.std.proofs.Common.{to_z, of_z, rules}
-use mir.Syntax.{w128}
-use Rattle.mj_quat.specs.Rotation.{quaternion}
+use Rattle.std.proofs.Common.{◌≡◌, unsigned_abs, rules, sym, subst}
+use Rattle.mj_quat.specs.Rotation.{quaternion, quaternion_length, WithinQuaternion}
 use Rattle.mj_quat.proofs.LengthLaws.{quaternion_covered}
 use Rattle.mj_quat.proofs.lengths.quaternion_length.Goals as goal
 
 pub returns-clause-covers : goal.returns-clause-covers
+unfolding quaternion_length
 returns-clause-covers c =
-    quaternion_covered (quaternion c.args.q.now) (to_z w128 (of_z w128 c.isqrt.result)) (search rules)
+    let q = quaternion c.args.q.now in
+    let v : c.root.result.mid ≡ quaternion_length q = search rules in
+    subst (λ s. WithinQuaternion q (unsigned_abs s)) (sym v) (quaternion_covered q)

@@ -1,20 +1,13 @@
-use Rattle.std.proofs.Common.{SFits, arith, rules}
-use Rattle.std.proofs.lemmas.Int.{to_z-of_z}
-use mir.Syntax.{w128}
-use Rattle.mj_quat.proofs.SineLaws.{sine-start, sine-step, sine-whole}
+use Rattle.std.proofs.Common.{pos, refl}
+use Rattle.mj_quat.proofs.SineLaws.{sine-start, sine-two, sine-whole}
 use Rattle.mj_quat.proofs.sine.sine_sum.Goals as goal
 
-pub loop-n-init : goal.loop-n-init
-loop-n-init c =
-    let r : SFits w128 c.args.rest.now = search rules in
-    rw to_z-of_z (sine-start c.args.rest.now c.args.square.now c.requires.rest)
-
-pub loop-n-preserved : goal.loop-n-preserved
-loop-n-preserved c =
-    let e = c.extended-partial.ensures in
-    sine-step c.args.rest.now c.args.square.now c.loop-n.n c.loop-n.partial.term c.loop-n.partial.total c.extended-partial.result.term c.extended-partial.result.total c.loop-n.invariant (search rules) (search rules) (search rules) (search rules)
-
-pub returns : goal.returns
-returns c =
-    let r : SFits w128 c.loop-n.partial.total = search rules in
-    rw to_z-of_z (sine-whole c.args.rest.now c.args.square.now c.loop-n.n c.loop-n.partial.term c.loop-n.partial.total (omega arith) c.requires.square c.loop-n.invariant)
+pub returns-clause-value : goal.returns-clause-value
+returns-clause-value c =
+    let t = pos c.args.rest in
+    let z = pos c.args.square in
+    let third = sine-two t z 0 6 20 _ _ _ _ (sine-start t z) refl refl c.add_two-third.ensures.term c.add_two-third.ensures.total in
+    let fifth = sine-two t z 2 42 72 _ _ _ _ third refl refl c.add_two-fifth.ensures.term c.add_two-fifth.ensures.total in
+    let seventh = sine-two t z 4 110 156 _ _ _ _ fifth refl refl c.add_two-seventh.ensures.term c.add_two-seventh.ensures.total in
+    let ninth = sine-two t z 6 210 272 _ _ _ _ seventh refl refl c.add_two-ninth.ensures.term c.add_two-ninth.ensures.total in
+    sine-whole t z _ _ c.requires.square ninth
