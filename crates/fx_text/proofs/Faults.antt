@@ -2,8 +2,8 @@
 use Rattle.std.proofs.Common.{◌≡◌, ℕ, zero, suc, ◌-◌, leb, ltb, ◌<◌, ◌≤◌, ◌^◌, min, List, [], ◌∷◌, Bool, true, false, cond, Some, None, Result, Err, length, ℤ, ◌==◌, refl, sym, ◌∙◌, ⊎_elim, arith}
 use Rattle.std.proofs.lemmas.Bool.{cases_lt}
 use Rattle.std.proofs.lemmas.Bool.Decides.{nat_tests}
-use Rattle.fx_text.specs.Numeral.{is_numeral, begun}
-use Rattle.fx_text.specs.Decimal.{decimal, value, in_range, signed}
+use Rattle.fx_text.specs.Numeral.{is_numeral, prefix_length}
+use Rattle.fx_text.specs.Decimal.{decimal, value, in_range, apply_sign}
 use Rattle.fx_text.specs.declared.decimal.DecimalFault.{DecimalFault}
 use Rattle.fx_text.specs.declared.decimal.DecimalFault.TheVariants.{Empty, BadByte, TooLong, Range}
 
@@ -24,26 +24,26 @@ value-cases : (t : Bool) (v : Result ℤ DecimalFault) (n : ℕ) → None ≡ co
 value-cases true v n h = refl
 value-cases false v n h = absurd cc
 
-pub decimal-bad : (F : ℕ) (text : List ℕ) (at : ℕ) → (length text == 0) ≡ false → Some at ≡ cond (is_numeral text) None (Some (begun text)) → decimal F text ≡ Err (BadByte at)
+pub decimal-bad : (F : ℕ) (text : List ℕ) (at : ℕ) → (length text == 0) ≡ false → Some at ≡ cond (is_numeral text) None (Some (prefix_length text)) → decimal F text ≡ Err (BadByte at)
 unfolding decimal
 decimal-bad F [] at h k = absurd cc
-decimal-bad F (b ∷ bs) at h k = bad-cases (is_numeral (b ∷ bs)) (value F (b ∷ bs)) (begun (b ∷ bs)) at k
+decimal-bad F (b ∷ bs) at h k = bad-cases (is_numeral (b ∷ bs)) (value F (b ∷ bs)) (prefix_length (b ∷ bs)) at k
 
-pub decimal-value : (F : ℕ) (text : List ℕ) → (length text == 0) ≡ false → None ≡ cond (is_numeral text) None (Some (begun text)) → decimal F text ≡ value F text
+pub decimal-value : (F : ℕ) (text : List ℕ) → (length text == 0) ≡ false → None ≡ cond (is_numeral text) None (Some (prefix_length text)) → decimal F text ≡ value F text
 unfolding decimal
 decimal-value F [] h k = absurd cc
-decimal-value F (b ∷ bs) h k = value-cases (is_numeral (b ∷ bs)) (value F (b ∷ bs)) (begun (b ∷ bs)) k
+decimal-value F (b ∷ bs) h k = value-cases (is_numeral (b ∷ bs)) (value F (b ∷ bs)) (prefix_length (b ∷ bs)) k
 
 above-test : (m n : ℕ) → n < m → leb m n ≡ false
 above-test m n h = grind (arith, nat_tests)
 
-above : (negative : Bool) (size : ℕ) → 2 ^ 64 ≤ size → in_range (signed negative size) ≡ Err Range
+above : (negative : Bool) (size : ℕ) → 2 ^ 64 ≤ size → in_range (apply_sign negative size) ≡ Err Range
 above true zero h = absurd (omega arith)
 above true (suc m) h = let e : leb m (2 ^ 63 - 1) ≡ false = above-test m (2 ^ 63 - 1) (omega arith) in rw e refl
 above false size h = let e : leb size (2 ^ 63 - 1) ≡ false = above-test size (2 ^ 63 - 1) (omega arith) in rw e refl
 
 -- a size that is cut beyond the range is out of range all the same
-pub in_range-cut : (negative : Bool) (size cut : ℕ) → cut ≡ min size (2 ^ 64) → in_range (signed negative cut) ≡ in_range (signed negative size)
+pub in_range-cut : (negative : Bool) (size cut : ℕ) → cut ≡ min size (2 ^ 64) → in_range (apply_sign negative cut) ≡ in_range (apply_sign negative size)
 in_range-cut negative size cut h =
     ⊎_elim
     (λ k. let e : cut ≡ size = omega arith in rw e refl)

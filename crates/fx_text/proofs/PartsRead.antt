@@ -1,11 +1,11 @@
 -- A numeral is read as its parts say.
-use Rattle.std.proofs.Common.{◌≡◌, ◌⊎◌, ℕ, suc, ◌+◌, ◌-◌, ◌<◌, ◌≤◌, List, [], ◌∷◌, ◌++◌, Bool, true, false, not, ◌&&◌, cond, eqb, ltb, Option, Some, None, IfSome, Result, Err, length, ℤ, pos, ◌-ℤ◌, refl, sym, ◌∙◌, ap, inl, inr, arith, append_assoc}
+use Rattle.std.proofs.Common.{◌≡◌, ◌⊎◌, ℕ, suc, ◌+◌, ◌<◌, ◌≤◌, List, [], ◌∷◌, ◌++◌, Bool, true, false, not, ◌&&◌, cond, eqb, ltb, Option, Some, None, IfSome, Result, Err, length, ℤ, pos, ◌-ℤ◌, refl, sym, ◌∙◌, ap, inl, inr, arith, append_assoc}
 use Rattle.std.specs.List.{list_all}
 use Rattle.std.proofs.lemmas.List.{append-nil}
 use Rattle.std.proofs.lemmas.List.Sums.{fold-append, sum_by-append, sum_by-cons}
 use Rattle.std.proofs.lemmas.Bool.Decides.{nat_tests}
 use Rattle.fx_text.specs.Numeral.{kind_of, completes, is_numeral, next, where_next, may_end}
-use Rattle.fx_text.specs.Decimal.{is_digit, is_point, is_mark, before, after, with_byte, number, digit_count, is_negative, signed, mantissa, fraction, exponent, scaled, in_range}
+use Rattle.fx_text.specs.Decimal.{is_digit, is_point, is_mark, before, after, with_byte, number, digit_count, is_negative, apply_sign, mantissa, fraction, exponent, scale_decimal, in_range}
 use Rattle.fx_text.specs.Parts.{Sign, unsigned, plus, minus, Exponent, sign_text, fraction_text, exponent_text, text_of, behind_point, AreDigits, IsExponent, is_minus, power_of, NumeralsAreRead}
 use Rattle.fx_text.specs.declared.numeral.Kind.{Kind}
 use Rattle.fx_text.specs.declared.numeral.Kind.TheVariants as kind
@@ -136,13 +136,13 @@ exponent-part : (e : Exponent) → IsExponent e → after is_mark (exponent_text
 exponent-part e h = elim h.mark as (λ _. after is_mark (exponent_text (Some e)) ≡ sign_text e.sign ++ e.digits) [ inl m ↦ rw m refl | inr m ↦ rw m refl ]
 
 abbrev power_in : List ℕ → ℤ
-power_in part = signed (is_negative part) (number part)
+power_in part = apply_sign (is_negative part) (number part)
 
 exponent-after : (e : Option Exponent) → IfSome e IsExponent → power_in (after is_mark (exponent_text e)) ≡ power_of e
 exponent-after None h = refl
 exponent-after (Some e) h =
     let n : number (sign_text e.sign ++ e.digits) ≡ number e.digits = number-append 0 (sign_text e.sign) e.digits ∙ ap (λ m. number_from m e.digits) (sign-number e.sign 0) in
-    ap power_in (exponent-part e h) ∙ ap (λ b. signed b (number (sign_text e.sign ++ e.digits))) (sign-negative e.sign e.digits h.digits) ∙ ap (signed (is_minus e.sign)) n
+    ap power_in (exponent-part e h) ∙ ap (λ b. apply_sign b (number (sign_text e.sign ++ e.digits))) (sign-negative e.sign e.digits h.digits) ∙ ap (apply_sign (is_minus e.sign)) n
 
 -- ---- the grammar
 
@@ -232,7 +232,7 @@ numeral-some (b ∷ bs) h = not_empty (length bs)
 
 -- what is answered from the readings
 abbrev verdict : ℕ → ℕ → ℕ → ℕ → ℤ → Bool → Result ℤ DecimalFault
-verdict F count n places power negative = cond (ltb 26 count) (Err TooLong) (in_range (signed negative (scaled F n (pos places -ℤ power))))
+verdict F count n places power negative = cond (ltb 26 count) (Err TooLong) (in_range (apply_sign negative (scale_decimal F n (pos places -ℤ power))))
 
 same : (F c c' n n' k k' : ℕ) (e e' : ℤ) (b b' : Bool) → c ≡ c' → n ≡ n' → k ≡ k' → e ≡ e' → b ≡ b' → verdict F c n k e b ≡ verdict F c' n' k' e' b'
 same F c c' n n' k k' e e' b b' hc hn hk he hb = rw (hc, hn, hk, he, hb) refl
@@ -244,11 +244,11 @@ numerals_are_read F p h =
     let f : List ℕ = fraction_text p.fraction in
     let x : List ℕ = exponent_text p.exponent in
     let behind : List ℕ = behind_point p.fraction in
-    let front : List ℕ = s ++ (p.whole ++ f) in
+    let prefix : List ℕ = s ++ (p.whole ++ f) in
     let numeral : is_numeral text ≡ true = sign-run p.sign p.whole p.fraction p.exponent h.whole h.fraction h.some h.exponent in
-    let regrouped : text ≡ front ++ x = ap (λ (ys : List ℕ). s ++ ys) (sym (append_assoc p.whole f x)) ∙ sym (append_assoc s (p.whole ++ f) x) in
-    let marks : Free is_mark front = free-append is_mark s (p.whole ++ f) (sign-free_of_marks p.sign) (free-append is_mark p.whole f (digits-free is_mark digit-mark p.whole h.whole) (fraction-free p.fraction h.fraction)) in
-    let m : mantissa text ≡ front = ap (before is_mark) regrouped ∙ before-free is_mark front x marks ∙ ap (λ (ys : List ℕ). front ++ ys) (exponent-before p.exponent h.exponent) ∙ append-nil front in
+    let regrouped : text ≡ prefix ++ x = ap (λ (ys : List ℕ). s ++ ys) (sym (append_assoc p.whole f x)) ∙ sym (append_assoc s (p.whole ++ f) x) in
+    let marks : Free is_mark prefix = free-append is_mark s (p.whole ++ f) (sign-free_of_marks p.sign) (free-append is_mark p.whole f (digits-free is_mark digit-mark p.whole h.whole) (fraction-free p.fraction h.fraction)) in
+    let m : mantissa text ≡ prefix = ap (before is_mark) regrouped ∙ before-free is_mark prefix x marks ∙ ap (λ (ys : List ℕ). prefix ++ ys) (exponent-before p.exponent h.exponent) ∙ append-nil prefix in
     let count : digit_count (mantissa text) ≡ length p.whole + length behind =
     ap digit_count m ∙ sum_by-append ones s (p.whole ++ f) ∙ ap (λ k. k + digit_count (p.whole ++ f)) (sign-count p.sign) ∙ counted p.whole f (length behind) h.whole (fraction-count p.fraction h.fraction)
     in
@@ -258,6 +258,6 @@ numerals_are_read F p h =
     in
     let fr : fraction text ≡ behind = ap (after is_point) m ∙ after-free is_point s (p.whole ++ f) (sign-free_of_points p.sign) ∙ after-free is_point p.whole f (digits-free is_point digit-point p.whole h.whole) ∙ fraction-after p.fraction in
     let places : digit_count (fraction text) ≡ length behind = ap digit_count fr ∙ digits-count behind h.fraction in
-    let power : exponent text ≡ power_of p.exponent = ap (λ (ys : List ℕ). power_in (after is_mark ys)) regrouped ∙ ap power_in (after-free is_mark front x marks) ∙ exponent-after p.exponent h.exponent in
+    let power : exponent text ≡ power_of p.exponent = ap (λ (ys : List ℕ). power_in (after is_mark ys)) regrouped ∙ ap power_in (after-free is_mark prefix x marks) ∙ exponent-after p.exponent h.exponent in
     let negative : is_negative text ≡ is_minus p.sign = text-negative p.sign p.whole p.fraction x h.whole h.some in
     decimal-value F text (numeral-some text numeral) (rw numeral refl) ∙ same F _ _ _ _ _ _ _ _ _ _ count n places power negative

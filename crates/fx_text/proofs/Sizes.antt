@@ -7,7 +7,7 @@ use Rattle.std.proofs.lemmas.Bool.Decides.{nat_tests}
 use Rattle.std.proofs.lemmas.Nat.{pow-add, one_shl}
 use Rattle.std.proofs.Math.Nat.{pow-le-pow_right, one-le-pow, mul-le-mul_left, mul-le-mul_right}
 use Rattle.fx_text.specs.Numeral.{kind_of}
-use Rattle.fx_text.specs.Decimal.{is_digit, with_byte, number, digit_count, signed}
+use Rattle.fx_text.specs.Decimal.{is_digit, with_byte, number, digit_count, apply_sign}
 
 -- how many digits a byte is
 abbrev pub ones : ℕ → ℕ
@@ -78,7 +78,7 @@ raised-lt n scale h k =
 pub raised_of_shift : (n scale : ℕ) → n < 10 ^ 26 → scale ≤ 40 → n * (1 * 2 ^ scale % 2 ^ 128) < 2 ^ 127
 raised_of_shift n scale h k = let l : scale < 128 = omega arith in rw one_shl (raised-lt n scale h k)
 
-pub signed-size : (negative : Bool) (z : ℤ) (size : ℕ) → z ≡ signed negative size → unsigned_abs z ≡ size
+pub signed-size : (negative : Bool) (z : ℤ) (size : ℕ) → z ≡ apply_sign negative size → unsigned_abs z ≡ size
 signed-size true z size h = rw h (omega (arith, ints))
 signed-size false z size h = rw h refl
 

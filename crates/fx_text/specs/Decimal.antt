@@ -2,7 +2,7 @@
 use Rattle.std.specs.Prelude.{ℕ, suc, ◌-◌, ◌+◌, ◌*◌, ◌^◌, ℤ, pos, negsuc, neg_ℤ, ◌-ℤ◌, unsigned_abs, int_le, Bool, true, false, ◌&&◌, ◌==◌, nat_lt, nat_le, if◌then◌else◌, cond, List, [], ◌∷◌, take, drop, count_by, Result, Ok, Err}
 use Rattle.std.specs.List.{fold}
 use Rattle.fx_whole.specs.Nearest.{nearest}
-use Rattle.fx_text.specs.Numeral.{kind_of, is_numeral, begun}
+use Rattle.fx_text.specs.Numeral.{kind_of, is_numeral, prefix_length}
 use Rattle.fx_text.specs.declared.numeral.Kind.{Kind}
 use Rattle.fx_text.specs.declared.numeral.Kind.TheVariants.{Digit, Point, Mark}
 use Rattle.fx_text.specs.declared.decimal.DecimalFault.{DecimalFault}
@@ -52,8 +52,8 @@ is_negative [] = false
 is_negative (b ∷ bs) = b == 45
 
 -- the whole number with this size, below zero where the test says so
-abbrev pub signed : Bool → ℕ → ℤ
-signed negative size = if negative then neg_ℤ (pos size) else pos size
+abbrev pub apply_sign : Bool → ℕ → ℤ
+apply_sign negative size = if negative then neg_ℤ (pos size) else pos size
 
 -- the part of a numeral before its exponent
 abbrev pub mantissa : List ℕ → List ℕ
@@ -65,27 +65,32 @@ fraction text = after is_point (mantissa text)
 
 -- the exponent of ten that a numeral ends with, 0 where it has none
 abbrev pub exponent : List ℕ → ℤ
-exponent text = let part = after is_mark text in signed (is_negative part) (number part)
+exponent text = let part = after is_mark text in apply_sign (is_negative part) (number part)
 
 -- n / 10 ^ k at scale F, rounded to the nearest whole number; 0 where k passes 38
-abbrev pub scaled : ℕ → ℕ → ℤ → ℕ
-scaled F n (pos k) = if nat_le k 38 then unsigned_abs (nearest (pos (n * 2 ^ F)) (pos (10 ^ k))) else 0
-scaled F n (negsuc j) = n * 2 ^ F * 10 ^ suc j
+abbrev pub scale_decimal : ℕ → ℕ → ℤ → ℕ
+scale_decimal F n (pos k) =
+    if nat_le k 38 then unsigned_abs (nearest (pos (n * 2 ^ F)) (pos (10 ^ k))) else 0
+scale_decimal F n (negsuc j) = n * 2 ^ F * 10 ^ suc j
 
 -- the size of the number that a numeral stands for, at scale F
 abbrev pub size_at : ℕ → List ℕ → ℕ
-size_at F text = scaled F (number (mantissa text)) (pos (digit_count (fraction text)) -ℤ exponent text)
+size_at F text =
+    scale_decimal F (number (mantissa text)) (pos (digit_count (fraction text)) -ℤ exponent text)
 
 -- v where it is of 64 bits
 abbrev pub in_range : ℤ → Result ℤ DecimalFault
-in_range v = if int_le (negsuc (2 ^ 63 - 1)) v && int_le v (pos (2 ^ 63 - 1)) then Ok v else Err Range
+in_range v =
+    if int_le (negsuc (2 ^ 63 - 1)) v && int_le v (pos (2 ^ 63 - 1)) then Ok v else Err Range
 
 -- what a numeral stands for at scale F
 abbrev pub value : ℕ → List ℕ → Result ℤ DecimalFault
-value F text = if nat_lt 26 (digit_count (mantissa text)) then Err TooLong else in_range (signed (is_negative text) (size_at F text))
+value F text =
+    if nat_lt 26 (digit_count (mantissa text)) then Err TooLong else in_range (apply_sign (is_negative text) (size_at F text))
 
--- what a text is read as at scale F: a text with no bytes, one that is no numeral, one with too many digits before its exponent
--- and one whose number doesn't fit are refused in this order
+-- what a text is read as at scale F: a text with no bytes, one that is no numeral, one with too
+-- many digits before its exponent and one whose number doesn't fit are refused in this order
 unfoldable pub decimal : ℕ → List ℕ → Result ℤ DecimalFault
 decimal F [] = Err Empty
-decimal F (b ∷ bs) = if is_numeral (b ∷ bs) then value F (b ∷ bs) else Err (BadByte (begun (b ∷ bs)))
+decimal F (b ∷ bs) =
+    if is_numeral (b ∷ bs) then value F (b ∷ bs) else Err (BadByte (prefix_length (b ∷ bs)))

@@ -1,4 +1,5 @@
 pub mod Decimal
-pub mod Fronts
+pub mod Prefixes
 pub mod Numeral
 pub mod Parts
+pub mod Places

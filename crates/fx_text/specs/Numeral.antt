@@ -1,14 +1,17 @@
--- The grammar of decimal numerals: an optional sign; digits with at most one point, at least one digit; optionally an e, an
--- optional sign and one or two digits. It is told by the kinds of bytes that may follow at each place in a numeral.
+-- The grammar of decimal numerals: an optional sign; digits with at most one point, at least one
+-- digit; optionally an e, an optional sign and one or two digits. It is told by the kinds of bytes
+-- that may follow at each place in a numeral.
 use Rattle.std.specs.Prelude.{ℕ, suc, ◌-◌, Bool, true, false, ◌&&◌, ◌||◌, nat_le, ◌==◌, if◌then◌else◌, List, [], ◌∷◌, Option, Some, None}
 use Rattle.fx_text.specs.declared.numeral.Kind.{Kind}
 use Rattle.fx_text.specs.declared.numeral.Kind.TheVariants.{Digit, Sign, Point, Mark, Other}
 use Rattle.fx_text.specs.declared.numeral.Place.{Place}
 use Rattle.fx_text.specs.declared.numeral.Place.TheVariants.{Start, Signed, Whole, BarePoint, Fraction, Marked, MarkSigned, OneDigit, TwoDigits}
 
--- what a byte is in a numeral: a digit with its value, a sign, a point, or the mark e or E of an exponent
+-- what a byte is in a numeral: a digit with its value, a sign, a point, or the mark e or E of an
+-- exponent
 abbrev pub kind_of : ℕ → Kind
-kind_of b = if nat_le 48 b && nat_le b 57 then Digit (b - 48) else if (b == 43) || (b == 45) then Sign else if b == 46 then Point else if (b == 69) || (b == 101) then Mark else Other
+kind_of b =
+    if nat_le 48 b && nat_le b 57 then Digit (b - 48) else if (b == 43) || (b == 45) then Sign else if b == 46 then Point else if (b == 69) || (b == 101) then Mark else Other
 
 -- the place in a numeral behind a byte of this kind, where such a byte may follow
 abbrev pub next : Place → Kind → Option Place
@@ -48,14 +51,14 @@ completes p [] = may_end p
 completes p (b ∷ bs) = where_next (next p (kind_of b)) false (λ q. completes q bs)
 
 -- how many of the bytes may follow from this place on
-abbrev pub taken : Place → List ℕ → ℕ
-taken p [] = 0
-taken p (b ∷ bs) = where_next (next p (kind_of b)) 0 (λ q. suc (taken q bs))
+abbrev pub reach : Place → List ℕ → ℕ
+reach p [] = 0
+reach p (b ∷ bs) = where_next (next p (kind_of b)) 0 (λ q. suc (reach q bs))
 
 -- the text is a numeral
 abbrev pub is_numeral : List ℕ → Bool
 is_numeral text = completes Start text
 
--- the length of the longest front of the text that begins a numeral
-abbrev pub begun : List ℕ → ℕ
-begun text = taken Start text
+-- the length of the longest prefix of the text that begins a numeral
+abbrev pub prefix_length : List ℕ → ℕ
+prefix_length text = reach Start text

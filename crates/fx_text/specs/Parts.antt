@@ -1,8 +1,9 @@
--- Numerals by their parts, and what such a numeral stands for: what the grammar and its readings mean.
+-- Numerals by their parts, and what such a numeral stands for: what the grammar and its readings
+-- mean.
 use Rattle.std.specs.Prelude.{◌≡◌, ◌⊎◌, ℕ, ◌+◌, ◌<◌, ◌≤◌, ℤ, pos, ◌-ℤ◌, Bool, true, false, nat_lt, if◌then◌else◌, List, [], ◌∷◌, ◌++◌, length, Option, Some, None, IfSome, Result, Err}
 use Rattle.std.specs.List.{list_all}
 use Rattle.fx_text.specs.Numeral.{kind_of, is_numeral}
-use Rattle.fx_text.specs.Decimal.{is_digit, number, signed, scaled, in_range, decimal}
+use Rattle.fx_text.specs.Decimal.{is_digit, number, apply_sign, scale_decimal, in_range, decimal}
 use Rattle.fx_text.specs.declared.decimal.DecimalFault.{DecimalFault}
 use Rattle.fx_text.specs.declared.decimal.DecimalFault.TheVariants.{TooLong}
 
@@ -18,7 +19,8 @@ pub record Exponent : Type 0 where
   pub sign : Sign
   pub digits : List ℕ
 
--- a numeral: its sign, the digits before its point, those behind it if it has one, and its exponent if it has one
+-- a numeral: its sign, the digits before its point, those behind it if it has one, and its exponent
+-- if it has one
 pub record Parts : Type 0 where
   pub sign : Sign
   pub whole : List ℕ
@@ -71,18 +73,20 @@ is_minus _ = false
 -- the exponent of ten
 abbrev pub power_of : Option Exponent → ℤ
 power_of None = pos 0
-power_of (Some e) = signed (is_minus e.sign) (number e.digits)
+power_of (Some e) = apply_sign (is_minus e.sign) (number e.digits)
 
 -- what a numeral with these parts stands for at scale F
 abbrev pub parts_value : ℕ → Parts → Result ℤ DecimalFault
 parts_value F p =
     if nat_lt 26 (length p.whole + length (behind_point p.fraction)) then Err TooLong
-    else in_range (signed (is_minus p.sign) (scaled F (number (p.whole ++ behind_point p.fraction)) (pos (length (behind_point p.fraction)) -ℤ power_of p.exponent)))
+    else in_range (apply_sign (is_minus p.sign) (scale_decimal F (number (p.whole ++ behind_point p.fraction)) (pos (length (behind_point p.fraction)) -ℤ power_of p.exponent)))
 
 -- every numeral is read as its parts say
 abbrev pub NumeralsAreRead : Type 0
-NumeralsAreRead = (F : ℕ) (p : Parts) → ArePartsOfNumeral p → decimal F (text_of p) ≡ parts_value F p
+NumeralsAreRead =
+    (F : ℕ) (p : Parts) → ArePartsOfNumeral p → decimal F (text_of p) ≡ parts_value F p
 
 -- every numeral is the text of some parts
 abbrev pub NumeralsHaveParts : Type 0
-NumeralsHaveParts = (text : List ℕ) → is_numeral text ≡ true → (p : Parts) × ArePartsOfNumeral p × (text ≡ text_of p)
+NumeralsHaveParts =
+    (text : List ℕ) → is_numeral text ≡ true → (p : Parts) × ArePartsOfNumeral p × (text ≡ text_of p)

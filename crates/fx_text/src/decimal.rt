@@ -7,6 +7,7 @@ ghost use Rattle.fx_whole.specs.Nearest.{nearest as nearest_of};
 use crate::numeral::{Kind, bad_byte, kind_of};
 use fx_num::{Fix, Number};
 use fx_whole::nearest;
+use num_traits::ToPrimitive;
 
 /// Why a text isn't read as a number: it has no bytes; it is no numeral, and this many of its first
 /// bytes begin one; it has more than 26 digits before its exponent; its number doesn't fit.
@@ -120,9 +121,9 @@ fn is_negative(bytes: &[u8]) -> bool
 }
 
 // The whole number with this size, below zero where `negative` says so.
-fn signed(negative: bool, size: u128) -> i128
+pub(crate) fn apply_sign(negative: bool, size: u128) -> i128
     requires { size < 2 ^ 127 }
-    ensures { result ≡ spec.signed negative size }
+    ensures { result ≡ spec.apply_sign negative size }
 {
     let plain = size.cast_signed();
     if negative { -plain } else { plain }
@@ -135,7 +136,7 @@ fn exponent(text: &[u8]) -> i128
     ensures small { unsigned_abs result < 100 }
 {
     let part = behind(text, mark_place(text));
-    signed(is_negative(part), number(part))
+    apply_sign(is_negative(part), number(part))
 }
 
 // The size of the whole number nearest to `n / 10^k`.
@@ -145,7 +146,7 @@ fn quotient(n: u128, k: u32) -> u128
     ensures { result ≡ unsigned_abs (nearest_of (pos n) (pos (10 ^ k))) }
 {
     let divisor = 10u128.pow(k);
-    nearest(signed(false, n), signed(false, divisor)).unsigned_abs()
+    nearest(apply_sign(false, n), apply_sign(false, divisor)).unsigned_abs()
 }
 
 // `size * 10^count`, cut at the limit.
@@ -160,11 +161,11 @@ fn tens(size: u128, count: u32) -> u128
 }
 
 // `n / 10^k` at this scale, cut at the limit.
-fn scaled(n: u128, k: i128, scale: u32) -> u128
+fn scale_decimal(n: u128, k: i128, scale: u32) -> u128
     requires digits { n < 10 ^ 26 }
     requires scale { scale ≤ 40 }
     requires places { unsigned_abs k < 200 }
-    ensures { result ≡ min (spec.scaled scale n k) (2 ^ 64) }
+    ensures { result ≡ min (spec.scale_decimal scale n k) (2 ^ 64) }
 {
     let raised = n * (1u128 << scale);
     if k > 38 {
@@ -185,17 +186,14 @@ fn size_at(text: &[u8], mantissa: &[u8], scale: u32) -> u128
     ensures { result ≡ min (spec.size_at scale text.now) (2 ^ 64) }
 {
     let places = digit_count(behind(mantissa, point_place(mantissa)));
-    scaled(number(mantissa), places as i128 - exponent(text), scale)
+    scale_decimal(number(mantissa), places as i128 - exponent(text), scale)
 }
 
+// A number in 64 bits, where it fits.
 fn in_range(raw: i128) -> Result<i64, DecimalFault>
     ensures { result ≡ spec.in_range raw }
 {
-    if raw < i128::from(i64::MIN) || raw > i128::from(i64::MAX) {
-        Err(DecimalFault::Range)
-    } else {
-        Ok(raw as i64)
-    }
+    raw.to_i64().ok_or(DecimalFault::Range)
 }
 
 // The number that a numeral stands for, unless it has too many digits or doesn't fit.
@@ -208,7 +206,7 @@ fn value(text: &[u8], scale: u32) -> Result<i64, DecimalFault>
     if digit_count(mantissa) > MOST_DIGITS {
         return Err(DecimalFault::TooLong);
     }
-    in_range(signed(is_negative(text), size_at(text, mantissa, scale)))
+    in_range(apply_sign(is_negative(text), size_at(text, mantissa, scale)))
 }
 
 fn raw_decimal(text: &[u8], scale: u32) -> Result<i64, DecimalFault>
@@ -231,8 +229,5 @@ pub fn read_decimal<const F: u32>(text: &[u8]) -> Result<Fix<F>, DecimalFault>
         (λ x. spec.decimal F text.now ≡ Ok x.mid)
         (λ fault. spec.decimal F text.now ≡ Err fault) }
 {
-    match raw_decimal(text, F) {
-        Ok(raw) => Ok(Number::from_raw(raw)),
-        Err(fault) => Err(fault),
-    }
+    Ok(Number::from_raw(raw_decimal(text, F)?))
 }

@@ -1,4 +1,4 @@
-//! Numbers as text: decimal numerals are read at a binary scale, and whole numbers are printed.
+//! Numbers as text: decimal numerals are read at a binary scale, and numbers are printed.
 #![tactic(auto)]
 
 pub mod decimal;
@@ -7,7 +7,7 @@ mod numeral;
 pub mod print;
 
 pub use decimal::{DecimalFault, read_decimal};
-pub use print::print_raw;
+pub use print::{print_decimal, print_raw, send_decimal};
 
 #[cfg(test)]
 mod tests;

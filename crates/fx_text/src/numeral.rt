@@ -70,10 +70,11 @@ pub fn may_end(place: Place) -> bool
     }
 }
 
-/// Where a text stops being a numeral: the length of its longest front that begins one. `None` where
+/// Where a text stops being a numeral: the length of its longest prefix that begins one. `None` where
 /// it is a numeral.
 pub fn bad_byte(text: &[u8]) -> Option<usize>
-    ensures { result ≡ cond (grammar.is_numeral text.now) None (Some (grammar.begun text.now)) }
+    ensures { result ≡ cond (grammar.is_numeral text.now) None
+        (Some (grammar.prefix_length text.now)) }
 {
     let mut place = Place::Start;
     for (at, byte) in text.iter().enumerate() {

@@ -19,31 +19,31 @@ Grew-then (Some xs) (Some ys) (Some zs) x y p q = q ∙ ap (λ s. s ++ y) p ∙ 
 pub Grew-same : (a b : Option (List ℕ)) → b ≡ a → Grew a [] b
 Grew-same a b e = let P : Option (List ℕ) → Type 0 = λ s. Grew a [] s in subst P (sym e) (Grew-nothing a)
 
--- a front of a front
-pub GrewPart-front : (a b : Option (List ℕ)) (x y text : List ℕ) → text ≡ x ++ y → GrewPart a x b → GrewPart a text b
-GrewPart-front a b x y text e part = record {
-  front = part.front;
+-- a prefix of a prefix
+pub GrewPart-prefix : (a b : Option (List ℕ)) (x y text : List ℕ) → text ≡ x ++ y → GrewPart a x b → GrewPart a text b
+GrewPart-prefix a b x y text e part = record {
+  prefix = part.prefix;
   rest = part.rest ++ y;
-  parts = e ∙ ap (λ s. s ++ y) part.parts ∙ append_assoc part.front part.rest y;
+  parts = e ∙ ap (λ s. s ++ y) part.parts ∙ append_assoc part.prefix part.rest y;
   grew = part.grew;
 }
 
--- a piece was written, and then a front of another
+-- a piece was written, and then a prefix of another
 pub Grew-then_part : (a b c : Option (List ℕ)) (x y text : List ℕ) → text ≡ x ++ y → Grew a x b → GrewPart b y c → GrewPart a text c
 Grew-then_part a b c x y text e grew part = record {
-  front = x ++ part.front;
+  prefix = x ++ part.prefix;
   rest = part.rest;
-  parts = e ∙ ap (λ s. x ++ s) part.parts ∙ sym (append_assoc x part.front part.rest);
-  grew = Grew-then a b c x part.front grew part.grew;
+  parts = e ∙ ap (λ s. x ++ s) part.parts ∙ sym (append_assoc x part.prefix part.rest);
+  grew = Grew-then a b c x part.prefix grew part.grew;
 }
 
--- a whole is a front of itself
+-- a whole is a prefix of itself
 pub GrewPart-whole : (a b : Option (List ℕ)) (x : List ℕ) → Grew a x b → GrewPart a x b
-GrewPart-whole a b x grew = record { front = x; rest = []; parts = sym (append-nil x); grew = grew }
+GrewPart-whole a b x grew = record { prefix = x; rest = []; parts = sym (append-nil x); grew = grew }
 
--- no byte is a front of every text
+-- no byte is a prefix of every text
 pub GrewPart-none : (a b : Option (List ℕ)) (x : List ℕ) → b ≡ a → GrewPart a x b
-GrewPart-none a b x e = record { front = []; rest = x; parts = refl; grew = Grew-same a b e }
+GrewPart-none a b x e = record { prefix = []; rest = x; parts = refl; grew = Grew-same a b e }
 
 -- a piece was written, and then nothing more
 pub GrewPart-stopped : (a b c : Option (List ℕ)) (x y text : List ℕ) → text ≡ x ++ y → Grew a x b → c ≡ b → GrewPart a text c

@@ -4,7 +4,7 @@ use Rattle.std.proofs.lemmas.List.{append-nil, take_all, take_more, flat_map_mor
 use Rattle.std.specs.List.{flat_map}
 use Rattle.mj_io.specs.Faults.{Rose}
 use Rattle.mj_io.specs.Growth.{Grew, GrewPart}
-use Rattle.mj_io.specs.Sent.{Gathered, Sent, Wrote, emptied, fresh}
+use Rattle.mj_io.specs.Sent.{Gathered, Sent, Wrote, empty_page, fresh_page}
 use Rattle.mj_io.proofs.Faults.{Rose-then_later, Rose-after}
 use Rattle.mj_io.proofs.Growth.{Grew-nothing, Grew-then, Grew-same}
 
@@ -16,7 +16,7 @@ by_bool false {P} t f = f refl
 -- nothing went out, and the text waits
 pub Sent-gathered : {K : Type 0} (holds : K → Option (List ℕ)) (faults : K → ℕ) (a b : K) (from : Gathered) (text : List ℕ) (to : Gathered) → b ≡ a → to ≡ record { pending = from.pending ++ text; going = from.going } → Sent holds faults a from text b to
 Sent-gathered holds faults a b from text to same e = record {
-  front = [];
+  prefix = [];
   rest = from.pending ++ text;
   parts = refl;
   grew = Grew-same (holds a) (holds b) (ap holds same);
@@ -29,7 +29,7 @@ Sent-gathered holds faults a b from text to same e = record {
 -- the writing had stopped, and nothing changed
 pub Sent-stopped : {K : Type 0} (holds : K → Option (List ℕ)) (faults : K → ℕ) (a b : K) (from : Gathered) (text : List ℕ) (to : Gathered) → b ≡ a → from.going ≡ false → to.going ≡ false → Sent holds faults a from text b to
 Sent-stopped holds faults a b from text to same before after = record {
-  front = [];
+  prefix = [];
   rest = from.pending ++ text;
   parts = refl;
   grew = Grew-same (holds a) (holds b) (ap holds same);
@@ -40,9 +40,9 @@ Sent-stopped holds faults a b from text to same before after = record {
 }
 
 -- all went out from an empty page
-pub Sent-whole : {K : Type 0} (holds : K → Option (List ℕ)) (faults : K → ℕ) (a b : K) (text : List ℕ) → Grew (holds a) text (holds b) → faults a ≤ faults b → Sent holds faults a (emptied true) text b (emptied true)
+pub Sent-whole : {K : Type 0} (holds : K → Option (List ℕ)) (faults : K → ℕ) (a b : K) (text : List ℕ) → Grew (holds a) text (holds b) → faults a ≤ faults b → Sent holds faults a (empty_page true) text b (empty_page true)
 Sent-whole holds faults a b text grew later = record {
-  front = text;
+  prefix = text;
   rest = [];
   parts = sym (append-nil text);
   grew = grew;
@@ -52,10 +52,10 @@ Sent-whole holds faults a b text grew later = record {
   cause = λ on off. cc;
 }
 
--- a front went out from an empty page, and the writing stopped at a fault
-pub Sent-cut : {K : Type 0} (holds : K → Option (List ℕ)) (faults : K → ℕ) (a b : K) (text : List ℕ) → GrewPart (holds a) text (holds b) → Rose (faults a) (faults b) → faults a ≤ faults b → Sent holds faults a (emptied true) text b (emptied false)
+-- a prefix went out from an empty page, and the writing stopped at a fault
+pub Sent-cut : {K : Type 0} (holds : K → Option (List ℕ)) (faults : K → ℕ) (a b : K) (text : List ℕ) → GrewPart (holds a) text (holds b) → Rose (faults a) (faults b) → faults a ≤ faults b → Sent holds faults a (empty_page true) text b (empty_page false)
 Sent-cut holds faults a b text part rose later = record {
-  front = part.front;
+  prefix = part.prefix;
   rest = part.rest;
   parts = part.parts;
   grew = part.grew;
@@ -66,9 +66,9 @@ Sent-cut holds faults a b text part rose later = record {
 }
 
 -- what a page held went out, as a text from an empty page would have
-pub Sent-flushed : {K : Type 0} (holds : K → Option (List ℕ)) (faults : K → ℕ) (a b : K) (from to : Gathered) (text : List ℕ) (on off : Bool) → Sent holds faults a (emptied on) text b (emptied off) → from ≡ record { pending = text; going = on } → to ≡ emptied off → Sent holds faults a from [] b to
+pub Sent-flushed : {K : Type 0} (holds : K → Option (List ℕ)) (faults : K → ℕ) (a b : K) (from to : Gathered) (text : List ℕ) (on off : Bool) → Sent holds faults a (empty_page on) text b (empty_page off) → from ≡ record { pending = text; going = on } → to ≡ empty_page off → Sent holds faults a from [] b to
 Sent-flushed holds faults a b from to text on off sent e d = record {
-  front = sent.front;
+  prefix = sent.prefix;
   rest = sent.rest;
   parts = append-nil from.pending ∙ ap (λ p. p.pending) e ∙ sent.parts;
   grew = sent.grew;
@@ -79,21 +79,21 @@ Sent-flushed holds faults a b from to text on off sent e d = record {
 }
 
 -- a text went out straight from a page that held nothing
-pub Sent-straight : {K : Type 0} (holds : K → Option (List ℕ)) (faults : K → ℕ) (a b : K) (from to : Gathered) (text : List ℕ) (on off : Bool) → Sent holds faults a (emptied on) text b (emptied off) → from ≡ emptied on → to ≡ emptied off → Sent holds faults a from text b to
+pub Sent-straight : {K : Type 0} (holds : K → Option (List ℕ)) (faults : K → ℕ) (a b : K) (from to : Gathered) (text : List ℕ) (on off : Bool) → Sent holds faults a (empty_page on) text b (empty_page off) → from ≡ empty_page on → to ≡ empty_page off → Sent holds faults a from text b to
 Sent-straight holds faults a b from to text on off sent e d =
     let P : Gathered → Type 0 = λ p. Sent holds faults a p text b to in
-    let Q : Gathered → Type 0 = λ p. Sent holds faults a (emptied on) text b p in
+    let Q : Gathered → Type 0 = λ p. Sent holds faults a (empty_page on) text b p in
     subst P (sym e) (subst Q (sym d) sent)
 
 sent-then_on : {K : Type 0} {holds : K → Option (List ℕ)} {faults : K → ℕ} {a b c : K} {from mid to : Gathered} {x y text : List ℕ} → Sent holds faults a from x b mid → Sent holds faults b mid y c to → text ≡ x ++ y → mid.going ≡ true → Sent holds faults a from text c to
 sent-then_on {K} {holds} {faults} {a} {b} {c} {from} {mid} {to} {x} {y} {text} p q e on = record {
-  front = p.front ++ q.front;
+  prefix = p.prefix ++ q.prefix;
   rest = q.rest;
   parts =
       ap (λ s. from.pending ++ s) e ∙ sym (append_assoc from.pending x y) ∙ ap (λ s. s ++ y) p.parts
-      ∙ append_assoc p.front p.rest y ∙ ap (λ s. p.front ++ (s ++ y)) (sym (p.waits on)) ∙ ap (λ s. p.front ++ s) q.parts
-      ∙ sym (append_assoc p.front q.front q.rest);
-  grew = Grew-then (holds a) (holds b) (holds c) p.front q.front p.grew q.grew;
+      ∙ append_assoc p.prefix p.rest y ∙ ap (λ s. p.prefix ++ (s ++ y)) (sym (p.waits on)) ∙ ap (λ s. p.prefix ++ s) q.parts
+      ∙ sym (append_assoc p.prefix q.prefix q.rest);
+  grew = Grew-then (holds a) (holds b) (holds c) p.prefix q.prefix p.grew q.grew;
   waits = q.waits;
   stopped = λ s. let h = p.stopped s in let k = q.stopped h.0 in (k.0, k.1 ∙ h.1);
   later = let h = p.later in let k = q.later in omega arith;
@@ -102,12 +102,12 @@ sent-then_on {K} {holds} {faults} {a} {b} {c} {from} {mid} {to} {x} {y} {text} p
 
 sent-then_off : {K : Type 0} {holds : K → Option (List ℕ)} {faults : K → ℕ} {a b c : K} {from mid to : Gathered} {x y text : List ℕ} → Sent holds faults a from x b mid → Sent holds faults b mid y c to → text ≡ x ++ y → mid.going ≡ false → Sent holds faults a from text c to
 sent-then_off {K} {holds} {faults} {a} {b} {c} {from} {mid} {to} {x} {y} {text} p q e off = record {
-  front = p.front;
+  prefix = p.prefix;
   rest = p.rest ++ y;
   parts =
       ap (λ s. from.pending ++ s) e ∙ sym (append_assoc from.pending x y) ∙ ap (λ s. s ++ y) p.parts
-      ∙ append_assoc p.front p.rest y;
-  grew = let P : Option (List ℕ) → Type 0 = λ s. Grew (holds a) p.front s in subst P (sym (q.stopped off).1) p.grew;
+      ∙ append_assoc p.prefix p.rest y;
+  grew = let P : Option (List ℕ) → Type 0 = λ s. Grew (holds a) p.prefix s in subst P (sym (q.stopped off).1) p.grew;
   waits = λ s. let h = (q.stopped off).0 in cc;
   stopped = λ s. let h = p.stopped s in let k = q.stopped h.0 in (k.0, k.1 ∙ h.1);
   later = let h = p.later in let k = q.later in omega arith;
@@ -121,8 +121,8 @@ sent-then {mid = mid} p q e = by_bool mid.going (sent-then_on p q e) (sent-then_
 -- the texts of the first items of a list were sent, and then the text of one more; it begins with `sent-nothing`
 pub sent-more : {K X : Type 0} {holds : K → Option (List ℕ)} {faults : K → ℕ} {a b c : K} {from mid to : Gathered} (text : X → List ℕ) (items : List X) (i : ℕ) (x d : X) → i < length items → x ≡ get_or items i d → Sent holds faults a from (flat_map text (take i items)) b mid → Sent holds faults b mid (text x) c to → Sent holds faults a from (flat_map text (take (i + 1) items)) c to
 sent-more text items i x d within is p q =
-    let front : take (i + 1) items ≡ take i items ++ x ∷ [] = take_more items i d within ∙ ap (λ y. take i items ++ y ∷ []) (sym is) in
-    sent-then p q (ap (λ xs. flat_map text xs) front ∙ sym (flat_map_more text [] (take i items) x))
+    let prefix : take (i + 1) items ≡ take i items ++ x ∷ [] = take_more items i d within ∙ ap (λ y. take i items ++ y ∷ []) (sym is) in
+    sent-then p q (ap (λ xs. flat_map text xs) prefix ∙ sym (flat_map_more text [] (take i items) x))
 
 -- the texts of all items of a list were sent
 pub sent-all : {K X : Type 0} {holds : K → Option (List ℕ)} {faults : K → ℕ} {a b : K} {from to : Gathered} (text : X → List ℕ) (items : List X) (i : ℕ) → length items ≤ i → Sent holds faults a from (flat_map text (take i items)) b to → Sent holds faults a from (flat_map text items) b to
@@ -133,7 +133,7 @@ sent-all {holds = holds} {faults = faults} {a = a} {b = b} {from = from} {to = t
 -- no text was sent
 pub sent-nothing : {K : Type 0} (holds : K → Option (List ℕ)) (faults : K → ℕ) (a : K) (from : Gathered) → Sent holds faults a from [] a from
 sent-nothing holds faults a from = record {
-  front = [];
+  prefix = [];
   rest = from.pending;
   parts = append-nil from.pending;
   grew = Grew-nothing (holds a);
@@ -146,9 +146,9 @@ sent-nothing holds faults a from = record {
 -- the writing stopped within x, so whatever was to follow isn't written either
 pub sent-past : {K : Type 0} {holds : K → Option (List ℕ)} {faults : K → ℕ} {a b : K} {from to : Gathered} {x text : List ℕ} (y : List ℕ) → Sent holds faults a from x b to → text ≡ x ++ y → to.going ≡ false → Sent holds faults a from text b to
 sent-past {from = from} {x = x} y p e off = record {
-  front = p.front;
+  prefix = p.prefix;
   rest = p.rest ++ y;
-  parts = ap (λ s. from.pending ++ s) e ∙ sym (append_assoc from.pending x y) ∙ ap (λ s. s ++ y) p.parts ∙ append_assoc p.front p.rest y;
+  parts = ap (λ s. from.pending ++ s) e ∙ sym (append_assoc from.pending x y) ∙ ap (λ s. s ++ y) p.parts ∙ append_assoc p.prefix p.rest y;
   grew = p.grew;
   waits = λ s. cc;
   stopped = p.stopped;
@@ -156,25 +156,25 @@ sent-past {from = from} {x = x} y p e off = record {
   cause = p.cause;
 }
 
--- through a fresh page, what went out is a front of the text
-pub sent-part : {K : Type 0} {holds : K → Option (List ℕ)} {faults : K → ℕ} {a b : K} {to : Gathered} {text : List ℕ} → Sent holds faults a fresh text b to → GrewPart (holds a) text (holds b)
-sent-part p = record { front = p.front; rest = p.rest; parts = p.parts; grew = p.grew }
+-- through a fresh_page page, what went out is a prefix of the text
+pub sent-part : {K : Type 0} {holds : K → Option (List ℕ)} {faults : K → ℕ} {a b : K} {to : Gathered} {text : List ℕ} → Sent holds faults a fresh_page text b to → GrewPart (holds a) text (holds b)
+sent-part p = record { prefix = p.prefix; rest = p.rest; parts = p.parts; grew = p.grew }
 
--- a text was sent through a fresh page that was finished
-pub wrote-from_sent : {K T E : Type 0} {holds : K → Option (List ℕ)} {faults : K → ℕ} {a b : K} {text : List ℕ} (result : Result T E) → Sent holds faults a fresh text b (emptied (is_ok result)) → Wrote holds faults a text result b
+-- a text was sent through a fresh_page page that was finished
+pub wrote-from_sent : {K T E : Type 0} {holds : K → Option (List ℕ)} {faults : K → ℕ} {a b : K} {text : List ℕ} (result : Result T E) → Sent holds faults a fresh_page text b (empty_page (is_ok result)) → Wrote holds faults a text result b
 wrote-from_sent {holds = holds} {a = a} {b = b} (Ok x) p = record {
   whole =
       let P = λ (s : List ℕ). Grew (holds a) s (holds b) in
-      subst P (sym (p.parts ∙ ap (λ s. p.front ++ s) (sym (p.waits refl)) ∙ append-nil p.front)) p.grew;
+      subst P (sym (p.parts ∙ ap (λ s. p.prefix ++ s) (sym (p.waits refl)) ∙ append-nil p.prefix)) p.grew;
   part = tt;
   cause = tt;
   later = p.later;
 }
 wrote-from_sent (Err e) p = record { whole = tt; part = sent-part p; cause = p.cause refl refl; later = p.later }
 
--- a text was sent through a fresh page, and the writing was finished
-pub wrote-finished : {K T E : Type 0} {holds : K → Option (List ℕ)} {faults : K → ℕ} {a b c : K} {from mid : Gathered} {text : List ℕ} (result : Result T E) → from ≡ fresh → Sent holds faults a from text b mid → Sent holds faults b mid [] c (emptied (is_ok result)) → Wrote holds faults a text result c
+-- a text was sent through a fresh_page page, and the writing was finished
+pub wrote-finished : {K T E : Type 0} {holds : K → Option (List ℕ)} {faults : K → ℕ} {a b c : K} {from mid : Gathered} {text : List ℕ} (result : Result T E) → from ≡ fresh_page → Sent holds faults a from text b mid → Sent holds faults b mid [] c (empty_page (is_ok result)) → Wrote holds faults a text result c
 wrote-finished {holds = holds} {faults = faults} {a = a} {c = c} {text = text} result begun sent finished =
     let all = sent-then sent finished (sym (append-nil text)) in
-    let P : Gathered → Type 0 = λ p. Sent holds faults a p text c (emptied (is_ok result)) in
+    let P : Gathered → Type 0 = λ p. Sent holds faults a p text c (empty_page (is_ok result)) in
     wrote-from_sent result (subst P begun all)

@@ -4,3 +4,5 @@ pub mod Sent
 pub mod Tray
 pub mod Shelf
 pub mod Roomy
+pub mod System
+pub mod Memory

@@ -9,4 +9,5 @@ pub record Roomy : Type 0 where
 -- the bytes after one more piece, or nothing where they don't fit
 abbrev pub text_then : Option (List ℕ) → ℕ → List ℕ → Option (List ℕ)
 text_then None room piece = None
-text_then (Some text) room piece = cond (nat_le (length text + length piece) room) (Some (text ++ piece)) None
+text_then (Some text) room piece =
+    cond (nat_le (length text + length piece) room) (Some (text ++ piece)) None

@@ -15,21 +15,23 @@ first_named name (file ∷ files) = cond (bytes_eq file.0 name) (Some file.1) (f
 abbrev pub texts_of : {A : Type 0} → List (String A × Vec ℕ A) → List (List ℕ × List ℕ)
 texts_of files = map (λ f. (string_bytes f.0, f.1.items)) files
 
--- the files as pairs of a name and bytes, the numbers of the reads that fail, how many reads there were, and how many of
--- them failed
+-- the files as pairs of a name and bytes, the numbers of the reads that fail, how many reads there
+-- were, and how many of them failed
 pub record Shelf : Type 0 where
   pub files : List (List ℕ × List ℕ)
   pub fails : List ℕ
   pub reads : ℕ
   pub count : ℕ
 
--- whether the next read of a name is a fault: its number, counted from 1, is listed, or no file has the name
+-- whether the next read of a name is a fault: its number, counted from 1, is listed, or no file has
+-- the name
 abbrev pub read_fails : Shelf → List ℕ → Bool
 read_fails s name = is_listed (raised s.reads) s.fails || is_none (first_named name s.files)
 
 -- after a read of a name
 abbrev pub after_read : Shelf → List ℕ → Shelf
-after_read s name = record s { reads = raised s.reads; count = cond (read_fails s name) (raised s.count) s.count }
+after_read s name =
+    record s { reads = raised s.reads; count = cond (read_fails s name) (raised s.count) s.count }
 
 -- whether a read was a fault
 abbrev pub is_fault : {T : Type 0} → Result T CabinetFault → Bool

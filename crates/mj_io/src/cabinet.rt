@@ -25,9 +25,11 @@ pub trait Cabinet {
     /// The first `cap` bytes held under `name`, or all where there are fewer. `Failed` comes only
     /// where the count of this name rose in this call; `Memory` is free.
     fn read(&mut self, alloc: Global, name: &str, cap: usize) -> Result<Vec<u8>, CabinetFault>
-        ensures gives { IfOk result (λ v. IsTrue (tells self.old) → Gives (holds self.old name.now) cap v.items) }
+        ensures gives { IfOk result
+            (λ v. IsTrue (tells self.old) → Gives (holds self.old name.now) cap v.items) }
         ensures within { IfOk result (λ v. vec_len v ≤ cap) }
-        ensures cause { result ≡ Err CabinetFault.Failed → Rose (faults self.old name.now) (faults self.new name.now) }
+        ensures cause { result ≡ Err CabinetFault.Failed → Rose (faults self.old name.now)
+            (faults self.new name.now) }
         ensures later { (n : List ℕ) → faults self.old n ≤ faults self.new n }
         ensures bounded { (n : List ℕ) → faults self.new n ≤ count_limit }
         ensures tells_on { tells self.new ≡ tells self.old }

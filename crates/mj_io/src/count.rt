@@ -1,6 +1,7 @@
 // Counts that stand still at their greatest value.
-ghost use Rattle.std.specs.Prelude.{◌≡◌, cond};
+ghost use Rattle.std.specs.Prelude.{◌≡◌};
 ghost use Rattle.mj_io.specs.Faults.{raised};
+ghost use Rattle.mj_io.specs.System as spec;
 
 // One more, or the greatest value.
 pub(crate) fn one_more(count: u64) -> u64
@@ -11,7 +12,7 @@ pub(crate) fn one_more(count: u64) -> u64
 
 // A count after a call, which was a fault or wasn't.
 pub(crate) fn after_call(count: u64, failed: bool) -> u64
-    ensures { result ≡ cond failed (raised count) count }
+    ensures { result ≡ spec.count_after failed count }
 {
     if failed { one_more(count) } else { count }
 }

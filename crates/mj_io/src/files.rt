@@ -1,13 +1,13 @@
 // Files in memory by name.
 ghost use Rattle.std.specs.Prelude.{◌≡◌, ◌≤◌, take, IfOk, vec_len, option_copied};
-ghost use Rattle.mj_io.specs.Shelf.{first_named, texts_of};
+ghost use Rattle.mj_io.specs.Shelf as spec;
 
 use crate::NoMemory;
 use std::alloc::Global;
 
 // The bytes of the first file of a name.
 pub(crate) fn find<'a>(files: &'a [(String, Vec<u8>)], name: &str) -> Option<&'a [u8]>
-    ensures { option_copied result ≡ first_named name.now (texts_of files.now) }
+    ensures { option_copied result ≡ spec.first_named name.now (spec.texts_of files.now) }
 {
     for file in files {
         if file.0.as_str() == name {
@@ -18,7 +18,7 @@ pub(crate) fn find<'a>(files: &'a [(String, Vec<u8>)], name: &str) -> Option<&'a
 }
 
 // A copy of the first `cap` bytes.
-pub(crate) fn front_of(alloc: Global, bytes: &[u8], cap: usize) -> Result<Vec<u8>, NoMemory>
+pub(crate) fn prefix_of(alloc: Global, bytes: &[u8], cap: usize) -> Result<Vec<u8>, NoMemory>
     ensures gives { IfOk result (λ v. v.items ≡ take cap bytes.now) }
     ensures within { IfOk result (λ v. vec_len v ≤ cap) }
 {

@@ -10,6 +10,7 @@ pub mod mem_sink;
 pub mod page;
 pub mod room_sink;
 pub mod sink;
+pub mod stream;
 pub mod sure_cabinet;
 pub mod system;
 

@@ -2,12 +2,12 @@
 ghost use Rattle.std.specs.Prelude.{◌≡◌, ◌≤◌, ◌^◌, ◌-◌, ℕ, List, Option, None, Some, is_none, IfOk, IfSome, IsTrue, vec_len, true, cond};
 ghost use Rattle.mj_io.specs.Faults.{Rose, count_limit, raised};
 ghost use Rattle.mj_io.specs.Growth.{Gives};
-ghost use Rattle.mj_io.specs.Shelf.{Shelf, first_named, texts_of, read_fails, after_read, is_fault};
+ghost use Rattle.mj_io.specs.Shelf as spec;
 
 use crate::NoMemory;
 use crate::cabinet::{Cabinet, CabinetFault};
 use crate::count::{after_call, one_more};
-use crate::files::{find, front_of};
+use crate::files::{find, prefix_of};
 use std::alloc::Global;
 use std::marker::Model;
 
@@ -29,7 +29,12 @@ impl Model for MemCabinet {
 
     ghost Value = { Shelf };
 
-    ghost view = { λ c. record { files = texts_of c.files.items; fails = c.fails.items; reads = c.reads; count = c.count } };
+    ghost view = { λ c. record {
+      files = texts_of c.files.items;
+      fails = c.fails.items;
+      reads = c.reads;
+      count = c.count;
+    } };
 
     ghost invariant = { λ c. c.count ≤ count_limit };
 }
@@ -37,7 +42,12 @@ impl Model for MemCabinet {
 impl MemCabinet {
     /// A cabinet of these files, before its first read. It takes no memory.
     pub fn new(files: Vec<(String, Vec<u8>)>, fails: Vec<u64>) -> MemCabinet
-        ensures { result ≡ record { files = texts_of files.items; fails = fails.items; reads = 0; count = 0 } }
+        ensures { result ≡ record {
+          files = spec.texts_of files.items;
+          fails = fails.items;
+          reads = 0;
+          count = 0;
+        } }
     {
         MemCabinet {
             files,
@@ -49,8 +59,9 @@ impl MemCabinet {
 
     // What is held under a name, where the next read of it is no fault.
     fn shown(&self, name: &str) -> Option<&[u8]>
-        ensures fault { is_none result ≡ read_fails self.now name.now }
-        ensures held { IfSome result (λ bytes. first_named name.now self.now.files ≡ Some bytes.now) }
+        ensures fault { is_none result ≡ spec.read_fails self.now name.now }
+        ensures held { IfSome result
+            (λ bytes. spec.first_named name.now self.now.files ≡ Some bytes.now) }
         ensures bounded { self.now.count ≤ count_limit }
     {
         let number = one_more(self.reads);
@@ -63,15 +74,16 @@ impl MemCabinet {
 
     // What the next read of a name gives.
     fn give(&self, alloc: Global, name: &str, cap: usize) -> Result<Vec<u8>, CabinetFault>
-        ensures fault { is_fault result ≡ read_fails self.now name.now }
-        ensures gives { IfOk result (λ v. Gives (first_named name.now self.now.files) cap v.items) }
+        ensures fault { spec.is_fault result ≡ spec.read_fails self.now name.now }
+        ensures gives { IfOk result
+            (λ v. Gives (spec.first_named name.now self.now.files) cap v.items) }
         ensures within { IfOk result (λ v. vec_len v ≤ cap) }
         ensures bounded { self.now.count ≤ count_limit }
     {
         match self.shown(name) {
             None => Err(CabinetFault::Failed),
-            Some(bytes) => match front_of(alloc, bytes, cap) {
-                Ok(front) => Ok(front),
+            Some(bytes) => match prefix_of(alloc, bytes, cap) {
+                Ok(prefix) => Ok(prefix),
                 Err(NoMemory) => Err(CabinetFault::Memory),
             },
         }
@@ -81,20 +93,22 @@ impl MemCabinet {
 impl Cabinet for MemCabinet {
     ghost tells = { λ c. true };
 
-    ghost holds = { λ c name. first_named name c.files };
+    ghost holds = { λ c name. spec.first_named name c.files };
 
     ghost faults = { λ c name. c.count };
 
     fn read(&mut self, alloc: Global, name: &str, cap: usize) -> Result<Vec<u8>, CabinetFault>
-        ensures gives { IfOk result (λ v. IsTrue true → Gives (first_named name.now self.old.files) cap v.items) }
+        ensures gives { IfOk result
+            (λ v. IsTrue true → Gives (spec.first_named name.now self.old.files) cap v.items) }
         ensures within { IfOk result (λ v. vec_len v ≤ cap) }
         ensures cause { result ≡ Err CabinetFault.Failed → Rose self.old.count self.new.count }
         ensures later { (n : List ℕ) → self.old.count ≤ self.new.count }
         ensures bounded { (n : List ℕ) → self.new.count ≤ count_limit }
         ensures tells_on { true ≡ true }
-        ensures holds_on { (n : List ℕ) → first_named n self.new.files ≡ first_named n self.old.files }
-        ensures fault { is_fault result ≡ read_fails self.old name.now }
-        ensures after { self.new ≡ after_read self.old name.now }
+        ensures holds_on { (n : List ℕ) →
+            spec.first_named n self.new.files ≡ spec.first_named n self.old.files }
+        ensures fault { spec.is_fault result ≡ spec.read_fails self.old name.now }
+        ensures after { self.new ≡ spec.after_read self.old name.now }
     {
         let given = self.give(alloc, name, cap);
         let failed = matches!(&given, Err(CabinetFault::Failed));

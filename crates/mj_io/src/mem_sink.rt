@@ -2,7 +2,7 @@
 ghost use Rattle.std.specs.Prelude.{◌≡◌, ◌<◌, ◌≤◌, ◌+◌, ◌^◌, ◌-◌, ℕ, List, [], Option, Some, take, length, IfOk, OnOk, OnErr, is_err, false};
 ghost use Rattle.mj_io.specs.Faults.{Rose, count_limit};
 ghost use Rattle.mj_io.specs.Growth.{Grew};
-ghost use Rattle.mj_io.specs.Tray.{Tray, write_fails, taken, refused, kept, after_write};
+ghost use Rattle.mj_io.specs.Tray as spec;
 
 use crate::NoMemory;
 use crate::count::one_more;
@@ -29,9 +29,17 @@ impl Model for MemSink {
 
     ghost Value = { Tray };
 
-    ghost view = { λ s. record { held = s.held.items; room = s.room; fails = s.fails.items; most = s.most; writes = s.writes; count = s.count } };
+    ghost view = { λ s. record {
+      held = s.held.items;
+      room = s.room;
+      fails = s.fails.items;
+      most = s.most;
+      writes = s.writes;
+      count = s.count;
+    } };
 
-    ghost invariant = { λ s. (0 < s.most) × (vec_len s.held ≤ s.room) × (s.room ≤ vec_capacity s.held) × (s.count ≤ count_limit) };
+    ghost invariant = { λ s. (0 < s.most) × (vec_len s.held ≤ s.room)
+        × (s.room ≤ vec_capacity s.held) × (s.count ≤ count_limit) };
 }
 
 impl MemSink {
@@ -43,7 +51,14 @@ impl MemSink {
         most: usize,
     ) -> Result<MemSink, NoMemory>
         requires { 1 ≤ most }
-        ensures { IfOk result (λ s. s ≡ record { held = []; room = room; fails = fails.items; most = most; writes = 0; count = 0 }) }
+        ensures { IfOk result (λ s. s ≡ record {
+          held = [];
+          room = room;
+          fails = fails.items;
+          most = most;
+          writes = 0;
+          count = 0;
+        }) }
     {
         match Vec::with_capacity(alloc, room) {
             Ok(held) => Ok(MemSink {
@@ -74,7 +89,7 @@ impl MemSink {
 
     // Whether the next write is a fault.
     fn refuses(&self) -> bool
-        ensures fault { result ≡ write_fails self.now }
+        ensures fault { result ≡ spec.write_fails self.now }
         ensures bounded { self.now.count ≤ count_limit }
     {
         let number = one_more(self.writes);
@@ -82,7 +97,7 @@ impl MemSink {
     }
 
     fn refuse(&mut self)
-        ensures { self.new ≡ refused self.old }
+        ensures { self.new ≡ spec.after_fault self.old }
     {
         self.writes = one_more(self.writes);
         self.count = one_more(self.count);
@@ -90,8 +105,8 @@ impl MemSink {
 
     // How many bytes the next write takes of a piece of `count` bytes.
     fn takes(&self, count: usize) -> usize
-        ensures exact { result ≡ taken self.now count }
-        ensures some { 0 < count → write_fails self.now ≡ false → 0 < result }
+        ensures exact { result ≡ spec.bytes_taken self.now count }
+        ensures some { 0 < count → spec.write_fails self.now ≡ false → 0 < result }
     {
         count
             .min(self.most)
@@ -101,7 +116,7 @@ impl MemSink {
     // Takes `bytes`, for which there is room, so that no memory is wanted.
     fn keep(&mut self, bytes: &[u8])
         requires { length self.old.held + length bytes.now ≤ self.old.room }
-        ensures { self.new ≡ kept self.old bytes.now }
+        ensures { self.new ≡ spec.after_taking self.old bytes.now }
     {
         self.writes = one_more(self.writes);
         let _ = self.held.extend_from_slice(bytes);
@@ -117,14 +132,15 @@ impl Sink for MemSink {
         requires { 0 < length piece.now }
         ensures some { IfOk result (λ n. 0 < n) }
         ensures within { IfOk result (λ n. n ≤ length piece.now) }
-        ensures grew { IfOk result (λ n. Grew (Some self.old.held) (take n piece.now) (Some self.new.held)) }
+        ensures grew { IfOk result
+            (λ n. Grew (Some self.old.held) (take n piece.now) (Some self.new.held)) }
         ensures unchanged { OnErr result (Some self.new.held ≡ Some self.old.held) }
         ensures cause { OnErr result (Rose self.old.count self.new.count) }
         ensures later { self.old.count ≤ self.new.count }
         ensures bounded { self.new.count ≤ count_limit }
-        ensures fault { is_err result ≡ write_fails self.old }
-        ensures exact { IfOk result (λ n. n ≡ taken self.old (length piece.now)) }
-        ensures after { self.new ≡ after_write self.old piece.now }
+        ensures fault { is_err result ≡ spec.write_fails self.old }
+        ensures exact { IfOk result (λ n. n ≡ spec.bytes_taken self.old (length piece.now)) }
+        ensures after { self.new ≡ spec.after_write self.old piece.now }
     {
         if self.refuses() {
             self.refuse();

@@ -1,7 +1,7 @@
 // A page through which texts go out: bytes are gathered in it until it is full or flushed.
 ghost use Rattle.std.specs.Prelude.{◌≡◌, ◌+◌, ◌≤◌, ◌<◌, ◌↔◌, ℕ, List, [], ◌∷◌, ◌++◌, length, take, true, IsTrue, is_ok, decimal};
 ghost use Rattle.std.specs.Fmt.{signed_decimal};
-ghost use Rattle.mj_io.specs.Sent.{Gathered, Sent, emptied, fresh};
+ghost use Rattle.mj_io.specs.Sent as spec;
 
 use crate::sink::{Failed, Sink, put};
 use itoa::Buffer;
@@ -35,7 +35,7 @@ impl Model for Page {
 impl Page {
     /// An empty page, in a writing that goes on.
     pub fn new() -> Page
-        ensures { result ≡ fresh }
+        ensures { result ≡ spec.fresh_page }
     {
         Page {
             bytes: [0; PAGE_SIZE],
@@ -60,7 +60,8 @@ impl Page {
 
     fn gather(&mut self, bytes: &[u8])
         requires { length self.old.pending + length bytes.now ≤ PAGE_SIZE }
-        ensures { self.new ≡ record { pending = self.old.pending ++ bytes.now; going = self.old.going } }
+        ensures { self.new ≡
+            record { pending = self.old.pending ++ bytes.now; going = self.old.going } }
     {
         let end = self.len + bytes.len();
         self.bytes[self.len..end].copy_from_slice(bytes);
@@ -70,7 +71,8 @@ impl Page {
 
 // Writes `bytes` where the writing goes on, and says whether it still does.
 fn direct<S: Sink>(sink: &mut S, going: bool, bytes: &[u8]) -> bool
-    ensures { Sent S.holds S.faults sink.old (emptied going) bytes.now sink.new (emptied result) }
+    ensures { spec.Sent S.holds S.faults sink.old (spec.empty_page going) bytes.now sink.new
+        (spec.empty_page result) }
 {
     if !going {
         return false;
@@ -84,7 +86,7 @@ fn direct<S: Sink>(sink: &mut S, going: bool, bytes: &[u8]) -> bool
 /// Writes what the page holds, where the writing goes on, and empties the page. Where nothing is
 /// pending, nothing is written.
 pub fn flush<S: Sink>(sink: &mut S, page: &mut Page)
-    ensures sent { Sent S.holds S.faults sink.old page.old [] sink.new page.new }
+    ensures sent { spec.Sent S.holds S.faults sink.old page.old [] sink.new page.new }
     ensures empty { page.new.pending ≡ [] }
 {
     let going = direct(sink, page.going, &page.bytes[..page.len]);
@@ -95,7 +97,7 @@ pub fn flush<S: Sink>(sink: &mut S, page: &mut Page)
 // Begins an empty page with `bytes`, or hands a piece that is longer than a page on directly.
 fn begin<S: Sink>(sink: &mut S, page: &mut Page, bytes: &[u8])
     requires { page.old.pending ≡ [] }
-    ensures { Sent S.holds S.faults sink.old page.old bytes.now sink.new page.new }
+    ensures { spec.Sent S.holds S.faults sink.old page.old bytes.now sink.new page.new }
 {
     if page.fits(bytes.len()) {
         page.gather(bytes);
@@ -106,7 +108,7 @@ fn begin<S: Sink>(sink: &mut S, page: &mut Page, bytes: &[u8])
 
 // Flushes the page and begins it anew with `bytes`.
 fn turn<S: Sink>(sink: &mut S, page: &mut Page, bytes: &[u8])
-    ensures { Sent S.holds S.faults sink.old page.old bytes.now sink.new page.new }
+    ensures { spec.Sent S.holds S.faults sink.old page.old bytes.now sink.new page.new }
 {
     flush(sink, page);
     begin(sink, page, bytes);
@@ -115,8 +117,9 @@ fn turn<S: Sink>(sink: &mut S, page: &mut Page, bytes: &[u8])
 /// Sends `bytes` to the sink through the page. Where the page has room they are gathered and nothing
 /// is written; else the page is flushed first, and a piece longer than a page goes out directly.
 pub fn send<S: Sink>(sink: &mut S, page: &mut Page, bytes: &[u8])
-    ensures sent { Sent S.holds S.faults sink.old page.old bytes.now sink.new page.new }
-    ensures gathers { length page.old.pending + length bytes.now ≤ PAGE_SIZE → page.new ≡ record { pending = page.old.pending ++ bytes.now; going = page.old.going } }
+    ensures sent { spec.Sent S.holds S.faults sink.old page.old bytes.now sink.new page.new }
+    ensures gathers { length page.old.pending + length bytes.now ≤ PAGE_SIZE →
+        page.new ≡ record { pending = page.old.pending ++ bytes.now; going = page.old.going } }
     ensures waits { length page.old.pending + length bytes.now ≤ PAGE_SIZE → sink.new ≡ sink.old }
 {
     if page.fits(bytes.len()) {
@@ -128,8 +131,9 @@ pub fn send<S: Sink>(sink: &mut S, page: &mut Page, bytes: &[u8])
 
 /// Ends a writing: writes what the page holds, empties it, and says whether all went out.
 pub fn finish<S: Sink>(sink: &mut S, page: &mut Page) -> Result<(), Failed>
-    ensures sent { Sent S.holds S.faults sink.old page.old [] sink.new (emptied (is_ok result)) }
-    ensures ended { page.new ≡ emptied (is_ok result) }
+    ensures sent { spec.Sent S.holds S.faults sink.old page.old [] sink.new
+        (spec.empty_page (is_ok result)) }
+    ensures ended { page.new ≡ spec.empty_page (is_ok result) }
 {
     flush(sink, page);
     if page.going { Ok(()) } else { Err(Failed) }
@@ -138,7 +142,8 @@ pub fn finish<S: Sink>(sink: &mut S, page: &mut Page) -> Result<(), Failed>
 /// Sends a signed number in decimal digits, with a `-` below zero. It is taken by reference, since
 /// clauses then name it as it is, and not through its bits.
 pub fn send_signed<S: Sink>(sink: &mut S, page: &mut Page, n: &i64)
-    ensures sent { Sent S.holds S.faults sink.old page.old (signed_decimal n.now) sink.new page.new }
+    ensures sent { spec.Sent S.holds S.faults sink.old page.old (signed_decimal n.now)
+        sink.new page.new }
 {
     let mut buffer = Buffer::new();
     send(sink, page, buffer.format(*n).as_bytes());
@@ -146,7 +151,8 @@ pub fn send_signed<S: Sink>(sink: &mut S, page: &mut Page, n: &i64)
 
 /// Sends a signed number of up to 128 bits in decimal digits, with a `-` below zero.
 pub fn send_wide<S: Sink>(sink: &mut S, page: &mut Page, n: &i128)
-    ensures sent { Sent S.holds S.faults sink.old page.old (signed_decimal n.now) sink.new page.new }
+    ensures sent { spec.Sent S.holds S.faults sink.old page.old (signed_decimal n.now)
+        sink.new page.new }
 {
     let mut buffer = Buffer::new();
     send(sink, page, buffer.format(*n).as_bytes());
@@ -154,7 +160,7 @@ pub fn send_wide<S: Sink>(sink: &mut S, page: &mut Page, n: &i128)
 
 /// Sends an unsigned number in decimal digits.
 pub fn send_unsigned<S: Sink>(sink: &mut S, page: &mut Page, n: u64)
-    ensures sent { Sent S.holds S.faults sink.old page.old (decimal n) sink.new page.new }
+    ensures sent { spec.Sent S.holds S.faults sink.old page.old (decimal n) sink.new page.new }
 {
     let mut buffer = Buffer::new();
     send(sink, page, buffer.format(n).as_bytes());
@@ -162,7 +168,7 @@ pub fn send_unsigned<S: Sink>(sink: &mut S, page: &mut Page, n: u64)
 
 /// Sends a size or an index in decimal digits.
 pub fn send_size<S: Sink>(sink: &mut S, page: &mut Page, n: usize)
-    ensures sent { Sent S.holds S.faults sink.old page.old (decimal n) sink.new page.new }
+    ensures sent { spec.Sent S.holds S.faults sink.old page.old (decimal n) sink.new page.new }
 {
     let mut buffer = Buffer::new();
     send(sink, page, buffer.format(n).as_bytes());

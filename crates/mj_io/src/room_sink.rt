@@ -2,7 +2,7 @@
 ghost use Rattle.std.specs.Prelude.{◌≡◌, ◌<◌, ◌≤◌, ◌^◌, ◌-◌, ℕ, List, [], Option, None, Some, Ok, take, length, IfOk, OnErr, option_copied};
 ghost use Rattle.mj_io.specs.Faults.{Rose, count_limit};
 ghost use Rattle.mj_io.specs.Growth.{Grew};
-ghost use Rattle.mj_io.specs.Roomy.{Roomy, text_then};
+ghost use Rattle.mj_io.specs.Roomy as spec;
 
 use crate::NoMemory;
 use crate::sink::{Failed, Sink};
@@ -57,7 +57,8 @@ impl RoomSink {
 
     // Takes a piece, where it has room, so that no memory is wanted.
     fn keep(&mut self, piece: &[u8])
-        ensures { self.new ≡ record self.old { text = text_then self.old.text self.old.room piece.now } }
+        ensures { self.new
+            ≡ record self.old { text = spec.text_then self.old.text self.old.room piece.now } }
     {
         self.fits = self.fits && piece.len() <= self.room - self.held.len();
         if self.fits {
@@ -81,7 +82,8 @@ impl Sink for RoomSink {
         ensures later { 0 ≤ 0 }
         ensures bounded { 0 ≤ count_limit }
         ensures whole { result ≡ Ok (length piece.now) }
-        ensures after { self.new ≡ record self.old { text = text_then self.old.text self.old.room piece.now } }
+        ensures after { self.new
+            ≡ record self.old { text = spec.text_then self.old.text self.old.room piece.now } }
     {
         self.keep(piece);
         Ok(piece.len())

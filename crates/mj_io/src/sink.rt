@@ -20,14 +20,15 @@ pub trait Sink {
         requires { 0 < length piece.now }
         ensures some { IfOk result (λ n. 0 < n) }
         ensures within { IfOk result (λ n. n ≤ length piece.now) }
-        ensures grew { IfOk result (λ n. Grew (holds self.old) (take n piece.now) (holds self.new)) }
+        ensures grew { IfOk result
+            (λ n. Grew (holds self.old) (take n piece.now) (holds self.new)) }
         ensures unchanged { OnErr result (holds self.new ≡ holds self.old) }
         ensures cause { OnErr result (Rose (faults self.old) (faults self.new)) }
         ensures later { faults self.old ≤ faults self.new }
         ensures bounded { faults self.new ≤ count_limit };
 }
 
-/// Writes all of `bytes`, in at most one write a byte. After `Failed` a front of them was written, and
+/// Writes all of `bytes`, in at most one write a byte. After `Failed` a prefix of them was written, and
 /// the sink's count rose.
 pub fn put<S: Sink>(sink: &mut S, bytes: &[u8]) -> Result<(), Failed>
     ensures ok { OnOk result (Grew (S.holds sink.old) bytes.now (S.holds sink.new)) }

@@ -1,20 +1,18 @@
 // The system's files and output. No contract knows what they hold.
 ghost use Rattle.std.specs.Prelude.{◌≡◌, ◌<◌, ◌≤◌, ◌+◌, ◌^◌, ◌-◌, ℕ, List, Err, take, length, cond, IfOk, OnErr, IsTrue, is_err, vec_len, false};
-ghost use Rattle.mj_io.specs.Faults.{Rose, count_limit, raised};
+ghost use Rattle.mj_io.specs.Faults.{Rose, count_limit};
 ghost use Rattle.mj_io.specs.Growth.{Gives, Grew, untold};
 ghost use Rattle.mj_io.specs.Shelf.{is_fault};
+ghost use Rattle.mj_io.specs.System as spec;
 
 use crate::cabinet::{Cabinet, CabinetFault};
-use crate::count::after_call;
 use crate::sink::{Failed, Sink};
+use crate::stream::{read_opened, write_some};
 use std::alloc::Global;
 use std::fs::Files;
-use std::io::{Print, Read, Write};
+use std::io::Print;
 use std::marker::Model;
 use std::{fs, io};
-
-/// How many bytes are asked of a file at once.
-const PIECE: usize = 65_536;
 
 /// The files of the system. A read is a fault where the system answers with an error, and the faults
 /// of all names have one count, which stands still at its greatest value. In contracts it is this
@@ -60,54 +58,10 @@ impl<'a, R: Files> Cabinet for FileCabinet<'a, R> {
         ensures bounded { (n : List ℕ) → self.new ≤ count_limit }
         ensures tells_on { false ≡ false }
         ensures holds_on { (n : List ℕ) → untold ≡ untold }
-        ensures after { self.new ≡ cond (is_fault result) (raised self.old) self.old }
+        ensures after { self.new ≡ spec.count_after (is_fault result) self.old }
     {
-        let given = read_front(self.rt, alloc, name, cap);
-        let failed = matches!(&given, Err(CabinetFault::Failed));
-        self.count = after_call(self.count, failed);
-        given
-    }
-}
-
-// The first `cap` bytes of a file. Want of memory is no fault of the system.
-fn read_front<R: Files>(
-    rt: &R,
-    alloc: Global,
-    name: &str,
-    cap: usize,
-) -> Result<Vec<u8>, CabinetFault>
-    ensures { IfOk result (λ v. vec_len v ≤ cap) }
-{
-    let Ok(mut file) = fs::open(rt, name) else {
-        return Err(CabinetFault::Failed);
-    };
-    let mut bytes = Vec::new(alloc);
-    while bytes.len() < cap {
-        let count = read_piece(&mut file, &mut bytes, cap)?;
-        if count == 0 {
-            break;
-        }
-    }
-    Ok(bytes)
-}
-
-// Reads once, up to a length of `cap`, and says how many bytes came.
-fn read_piece<F: Read>(file: &mut F, bytes: &mut Vec<u8>, cap: usize) -> Result<usize, CabinetFault>
-    requires { vec_len bytes.old < cap }
-    ensures more { IfOk result (λ n. vec_len bytes.new ≡ vec_len bytes.old + n) }
-    ensures within { IfOk result (λ n. vec_len bytes.new ≤ cap) }
-{
-    let start = bytes.len();
-    let room = PIECE.min(cap - start);
-    if bytes.resize(start + room, 0).is_err() {
-        return Err(CabinetFault::Memory);
-    }
-    match file.read(&mut bytes[start..]) {
-        Ok(count) => {
-            bytes.truncate(start + count);
-            Ok(count)
-        }
-        Err(_) => Err(CabinetFault::Failed),
+        let opened = fs::open(self.rt, name);
+        read_opened(alloc, opened, &mut self.count, cap)
     }
 }
 
@@ -154,25 +108,9 @@ impl<'a, R: Print> Sink for OutSink<'a, R> {
         ensures cause { OnErr result (Rose self.old self.new) }
         ensures later { self.old ≤ self.new }
         ensures bounded { self.new ≤ count_limit }
-        ensures after { self.new ≡ cond (is_err result) (raised self.old) self.old }
+        ensures after { self.new ≡ spec.count_after (is_err result) self.old }
     {
-        let taken = write_out(self.rt, piece);
-        self.count = after_call(self.count, taken.is_err());
-        taken
+        let mut out = io::writer(self.rt);
+        write_some(&mut out, &mut self.count, piece)
     }
-}
-
-// Writes some of the bytes and flushes.
-fn write_out<R: Print>(rt: &R, piece: &[u8]) -> Result<usize, Failed>
-    ensures some { IfOk result (λ n. 0 < n) }
-    ensures within { IfOk result (λ n. n ≤ length piece.now) }
-{
-    let mut out = io::writer(rt);
-    let Ok(count) = out.write(piece) else {
-        return Err(Failed);
-    };
-    if count == 0 || out.flush().is_err() {
-        return Err(Failed);
-    }
-    Ok(count)
 }

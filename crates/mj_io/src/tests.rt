@@ -1,7 +1,8 @@
 // What no clause says: examples, that calls can succeed, and how many writes a text takes.
 use super::*;
+use crate::stream::{read_opened, read_prefix, write_some};
 use std::alloc::Global;
-use std::io::Print;
+use std::io::{Print, Read, Write};
 use std::process::Abort;
 use std::test::Fail;
 use std::{fs, io};
@@ -17,10 +18,13 @@ fn each_type_can_be_sent_and_shared() {
     is_shared::<Page>();
     is_shared::<FileCabinet<'static, HostRuntime>>();
     is_shared::<OutSink<'static, HostRuntime>>();
+    is_shared::<NoMemory>();
+    is_shared::<CabinetFault>();
+    is_shared::<Failed>();
 }
 
 #[test]
-fn a_put_that_fails_has_written_a_front(rt: HostRuntime) -> Result<(), Fail> {
+fn a_put_that_fails_has_written_a_prefix(rt: HostRuntime) -> Result<(), Fail> {
     let fails = Vec::from_slice(rt.alloc(), &[3])?;
     let mut sink = MemSink::new(rt.alloc(), 8, fails, 1)?;
     assert_eq!(rt; put(&mut sink, b"abcd"), Err(Failed));
@@ -117,6 +121,106 @@ fn a_file_is_read_to_the_cap(rt: HostRuntime) -> Result<(), Fail> {
     Ok(())
 }
 
+// A reader that gives at most three bytes at once, and whose reads fail from a number on.
+#[derive(Drop)]
+struct Halting {
+    bytes: &'static [u8],
+    reads: u64,
+    fails_from: u64,
+}
+
+impl Read for Halting {
+    fn read(&mut self, buf: &mut [u8]) -> io::Result<usize> {
+        self.reads = self.reads.saturating_add(1);
+        if self.reads >= self.fails_from {
+            return Err(io::Error::from(io::ErrorKind::Other));
+        }
+        let n = self.bytes.len().min(buf.len()).min(3);
+        buf[..n].copy_from_slice(&self.bytes[..n]);
+        self.bytes = &self.bytes[n..];
+        Ok(n)
+    }
+}
+
+#[test]
+fn a_reader_of_short_pieces_is_read_to_the_cap(rt: HostRuntime) -> Result<(), Fail> {
+    for (cap, fails_from, given, want) in [
+        (8, 9, b"abcdefgh".as_slice(), 0),
+        (20, 9, b"abcdefghij", 0),
+        (6, 3, b"abcdef", 0),
+        (0, 1, b"", 0),
+        (7, 3, b"failed", 1),
+        (20, 5, b"failed", 1),
+    ] {
+        let mut file = Halting {
+            bytes: b"abcdefghij",
+            reads: 0,
+            fails_from,
+        };
+        let mut count = 0;
+        match read_prefix(rt.alloc(), &mut file, &mut count, cap) {
+            Ok(bytes) => assert_eq!(rt; bytes.as_slice(), given),
+            Err(fault) => assert_eq!(rt; fault, CabinetFault::Failed),
+        }
+        assert_eq!(rt; count, want);
+    }
+    Ok(())
+}
+
+#[test]
+fn a_file_that_cannot_be_opened_is_a_fault(rt: HostRuntime) -> Result<(), Fail> {
+    let missing: io::Result<Halting> = Err(io::Error::from(io::ErrorKind::NotFound));
+    let mut count = 7;
+    let read = read_opened(rt.alloc(), missing, &mut count, 10);
+    assert_eq!(rt; read.err(), Some(CabinetFault::Failed));
+    assert_eq!(rt; count, 8);
+    Ok(())
+}
+
+// A writer that takes at most two bytes at once, or none, and whose flush may fail.
+#[derive(Drop)]
+struct Narrow {
+    taken: usize,
+    most: usize,
+    flushes: bool,
+}
+
+impl Write for Narrow {
+    fn write(&mut self, buf: &[u8]) -> io::Result<usize> {
+        let n = buf.len().min(self.most);
+        self.taken = self.taken.saturating_add(n);
+        Ok(n)
+    }
+
+    fn flush(&mut self) -> io::Result<()> {
+        if self.flushes {
+            Ok(())
+        } else {
+            Err(io::Error::from(io::ErrorKind::Other))
+        }
+    }
+}
+
+#[test]
+fn a_write_says_what_the_writer_took(rt: HostRuntime) {
+    for (most, flushes, want, faults) in [
+        (2, true, Ok(2), 0),
+        (9, true, Ok(4), 0),
+        (0, true, Err(Failed), 1),
+        (2, false, Err(Failed), 1),
+    ] {
+        let mut out = Narrow {
+            taken: 0,
+            most,
+            flushes,
+        };
+        let mut count = 0;
+        assert_eq!(rt; write_some(&mut out, &mut count, b"wxyz"), want);
+        assert_eq!(rt; count, faults);
+        assert_eq!(rt; out.taken, most.min(4));
+    }
+}
+
 // An output that fails.
 struct Broken;
 
@@ -180,7 +284,7 @@ fn send_long(sink: &mut MemSink, piece: &[u8]) -> bool {
 }
 
 #[test]
-fn a_long_piece_goes_out_whole_or_in_front(rt: HostRuntime) -> Result<(), Fail> {
+fn a_long_piece_goes_out_whole_or_a_prefix_of_it(rt: HostRuntime) -> Result<(), Fail> {
     let piece = vec![in rt.alloc(); b'y'; 10_000]?;
     for (fail, is_whole, length, faults) in [(0, true, 10_004, 0), (5, false, 3_003, 1)] {
         let fails = Vec::from_slice(rt.alloc(), &[fail])?;

@@ -9,8 +9,8 @@ number-requires c =
     let h = part_digits c.args.text.now c.behind-part.result.now _ c.requires c.mark_place.ensures.value c.behind-part.ensures in
     omega arith
 
-pub signed-requires : goal.signed-requires
-signed-requires c =
+pub apply_sign-requires : goal.apply_sign-requires
+apply_sign-requires c =
     let h = part_digits c.args.text.now c.behind-part.result.now _ c.requires c.mark_place.ensures.value c.behind-part.ensures in
     let n = number-le_digits c.behind-part.result.now 2 h in
     omega arith
@@ -19,5 +19,5 @@ pub returns-clause-small : goal.returns-clause-small
 returns-clause-small c =
     let h = part_digits c.args.text.now c.behind-part.result.now _ c.requires c.mark_place.ensures.value c.behind-part.ensures in
     let n = number-le_digits c.behind-part.result.now 2 h in
-    let e = signed-size _ c.signed.result _ c.signed.ensures in
+    let e = signed-size _ c.apply_sign.result _ c.apply_sign.ensures in
     omega (arith, ints)

@@ -1,6 +1,6 @@
 use Rattle.std.proofs.Common.{arith, rules}
 use Rattle.fx_text.proofs.Sizes.{raised_of_shift}
-use Rattle.fx_text.proofs.decimal.scaled.Goals as goal
+use Rattle.fx_text.proofs.decimal.scale_decimal.Goals as goal
 
 pub overflow_mul-raised : goal.overflow_mul-raised
 overflow_mul-raised c =
