@@ -1,0 +1,9 @@
+pub mod Box
+pub mod Cost
+pub mod Enclosure
+pub mod Feasible
+pub mod Limits
+pub mod Problem
+pub mod Shortfall
+pub mod Stop
+pub mod Sweep
