@@ -1,3 +1,15 @@
 pub mod Answers
+pub mod BiasRooms
 pub mod Control
+pub mod Duals
+pub mod FactorRooms
+pub mod Forests
+pub mod Lawful
+pub mod Memory
+pub mod Parts
+pub mod Problems
 pub mod Ranges
+pub mod Rooms
+pub mod RowRooms
+pub mod Solved
+pub mod States

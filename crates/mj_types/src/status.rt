@@ -1,64 +1,88 @@
 // What a command answers.
 ghost use Rattle.std.specs.Prelude.{◌≡◌};
-ghost use Rattle.mj_types.specs.Answers.{code_of, model_code_name};
+ghost use Rattle.mj_types.specs.Answers as spec;
 
 use crate::range::Quantity;
 use crate::tape::TapeFault;
-use std::marker::Model;
+use fx_list::Text;
 
 /// Why a model is refused.
 #[derive(Clone, Copy, Debug, PartialEq, Eq)]
 pub enum ModelCode {
+    /// The file has more bytes than are read.
     TooLarge,
+    /// The file is no TOML document.
     NotToml,
+    /// A model of a form that isn't built yet.
     NotBuilt,
+    /// A key that its table doesn't have.
+    UnknownKey,
+    /// A required key isn't there.
+    MissingKey,
+    /// A value is a TOML float, which is never exact.
+    FloatValue,
+    /// A value is of another form.
+    WrongKind,
+    /// A number can't be read.
+    BadNumber,
+    /// A count, or a name's length, passes its limit.
+    LimitPassed,
+    /// No joint gives a degree of freedom.
+    EmptyModel,
+    /// A name stands before for an object of the same kind.
+    DuplicateName,
+    /// A name that no object has.
+    UnknownName,
+    /// A body stands before its parent.
+    ParentLater,
+    /// A free joint with another, or below the world's children.
+    FreeJoint,
+    /// A plane that isn't the world's.
+    PlaneOffWorld,
+    /// A quaternion or an axis is too short to be made a unit.
+    NotUnit,
+    /// A value is out of its range.
+    BadRange,
+    /// Solimp's width or power is out of its range.
+    BadSolimp,
+    /// Solref has neither of its forms.
+    BadSolref,
+    /// Memory was wanted and not found.
     Memory,
 }
 
 impl ModelCode {
     /// The code's name, as a refusal prints it.
     pub fn name(self) -> &'static str
-        ensures { result.now ≡ model_code_name self }
+        ensures { result.now ≡ spec.model_code_name self }
     {
         match self {
             ModelCode::TooLarge => "TooLarge",
             ModelCode::NotToml => "NotToml",
             ModelCode::NotBuilt => "NotBuilt",
+            ModelCode::UnknownKey => "UnknownKey",
+            ModelCode::MissingKey => "MissingKey",
+            ModelCode::FloatValue => "FloatValue",
+            ModelCode::WrongKind => "WrongKind",
+            ModelCode::BadNumber => "BadNumber",
+            ModelCode::LimitPassed => "LimitPassed",
+            ModelCode::EmptyModel => "EmptyModel",
+            ModelCode::DuplicateName => "DuplicateName",
+            ModelCode::UnknownName => "UnknownName",
+            ModelCode::ParentLater => "ParentLater",
+            ModelCode::FreeJoint => "FreeJoint",
+            ModelCode::PlaneOffWorld => "PlaneOffWorld",
+            ModelCode::NotUnit => "NotUnit",
+            ModelCode::BadRange => "BadRange",
+            ModelCode::BadSolimp => "BadSolimp",
+            ModelCode::BadSolref => "BadSolref",
             ModelCode::Memory => "Memory",
         }
     }
 }
 
-/// Where in a model a fault is, as `body[2].joint[1].range`; empty where no key is named. Contracts
-/// see the list of its bytes.
-#[derive(Debug, Drop)]
-pub struct Path {
-    bytes: Vec<u8>,
-}
-
-impl Model for Path {
-    ghost use Rattle.std.specs.Prelude.{List, ℕ};
-
-    ghost Value = { List ℕ };
-
-    ghost view = { λ p. p.bytes.items };
-}
-
-impl Path {
-    /// The path of these bytes. Takes no memory.
-    pub fn from_vec(bytes: Vec<u8>) -> Path
-        ensures { result ≡ bytes.items }
-    {
-        Path { bytes }
-    }
-
-    /// The bytes of the path.
-    pub fn as_slice(&self) -> &[u8]
-        ensures { result.now ≡ self.now }
-    {
-        self.bytes.as_slice()
-    }
-}
+/// Where in a model a fault is, as `body[2].joint[1].range`; empty where no key is named.
+pub type Path = Text;
 
 /// Why a model is refused, and at which key.
 #[derive(Debug, Drop)]
@@ -91,7 +115,7 @@ pub enum Status {
     },
     /// A file couldn't be read; nothing was written.
     ReadFault,
-    /// A write failed; a front of the text was written.
+    /// A write failed; a prefix of the text was written.
     WriteFault,
     /// Memory was wanted and not found; nothing was written.
     Memory,
@@ -100,7 +124,7 @@ pub enum Status {
 impl Status {
     /// The number that the program ends with.
     pub fn code(&self) -> u8
-        ensures { result ≡ code_of self.now }
+        ensures { result ≡ spec.code_of self.now }
     {
         match self {
             Status::Done => 0,
