@@ -1,0 +1,14 @@
+//! The solver of a dual: projected Gauss-Seidel in exact integers.
+#![tactic(auto)]
+
+mod cost;
+mod row;
+mod shift;
+mod solver;
+mod start;
+mod sweep;
+#[cfg(test)]
+mod tests;
+
+pub use mj_types::Stop;
+pub use solver::solve;
