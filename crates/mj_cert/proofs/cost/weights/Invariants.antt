@@ -1,0 +1,7 @@
+use Rattle.std.proofs.Common.{◌≡◌}
+use Rattle.fx_whole.specs.Sums.{sum_to}
+use Rattle.mj_cert.specs.Terms.{weight_term}
+use Rattle.mj_cert.proofs.cost.weights.Given as goal
+
+abbrev pub invariant-loop-i : goal.invariant-loop-i
+invariant-loop-i l = l.total.raw ≡ sum_to l.i (weight_term l.dual l.forces)
