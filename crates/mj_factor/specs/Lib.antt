@@ -1,0 +1,4 @@
+pub mod Factors
+pub mod Stored
+pub mod Residuals
+pub mod Solves

@@ -1,0 +1,16 @@
+//! The tree-sparse factor of the mass matrix, its solves, and the residual of a solve.
+#![tactic(auto)]
+
+mod factoring;
+pub mod laws;
+mod lists;
+mod numbers;
+mod passes;
+mod residuals;
+mod solving;
+#[cfg(test)]
+mod tests;
+
+pub use factoring::factor;
+pub use residuals::residual;
+pub use solving::{half_solve, solve};
