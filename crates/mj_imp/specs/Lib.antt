@@ -1,0 +1,2 @@
+pub mod Impedance
+pub mod Reference

@@ -1,0 +1,10 @@
+//! How hard a constraint holds: its impedance, and the acceleration that it asks for.
+#![tactic(auto)]
+
+pub mod solimp;
+pub mod solref;
+#[cfg(test)]
+mod tests;
+
+pub use solimp::impedance;
+pub use solref::reference;
