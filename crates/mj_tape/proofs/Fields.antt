@@ -9,7 +9,7 @@ use Rattle.mj_types.specs.declared.tape.TapeFault.TheVariants.{BadNumber}
 use Rattle.mj_types.specs.Control.{Control, control_limit, AreSmall}
 use Rattle.fx_text.specs.Decimal.{decimal}
 use Rattle.fx_text.specs.declared.decimal.DecimalFault.{DecimalFault}
-use Rattle.mj_tape.specs.Judging.{bad_field, control, control_of, within_limit, raws}
+use Rattle.mj_tape.specs.Judging.{bad_field, control_or_zero, control_of, small_control, raws}
 
 -- the field at a place stands first among those from there on
 pub field-drop : (fields : List (List ℕ)) (i : ℕ) (field : List ℕ) → field_at fields i ≡ Some field → drop i fields ≡ field ∷ drop (suc i) fields
@@ -30,7 +30,7 @@ more k fields i field v h e = rw (field-drop fields i field h, e) refl
 here : (k : ℕ) (fields : List (List ℕ)) (i : ℕ) (field : List ℕ) → field_at fields i ≡ Some field → control_of field ≡ None → bad_field k (suc i) (drop i fields) ≡ Some (BadNumber k (suc i))
 here k fields i field h e = rw (field-drop fields i field h, e) refl
 
-controls : (fields : List (List ℕ)) (i : ℕ) (field : List ℕ) (v : ℤ) → field_at fields i ≡ Some field → control_of field ≡ Some v → map control (drop i fields) ≡ v ∷ map control (drop (suc i) fields)
+controls : (fields : List (List ℕ)) (i : ℕ) (field : List ℕ) (v : ℤ) → field_at fields i ≡ Some field → control_of field ≡ Some v → map control_or_zero (drop i fields) ≡ v ∷ map control_or_zero (drop (suc i) fields)
 controls fields i field v h e = rw (field-drop fields i field h, e) refl
 
 -- a control moves the search for a bad field on
@@ -48,7 +48,7 @@ bad_field-here k fields i field fault h e n before =
 
 -- a control more is held, and one fewer is left
 pub controls-step : (fields : List (List ℕ)) (i j : ℕ) (field : List ℕ) (x : Control) (values after : List Control) (all : List ℤ) → field_at fields i ≡ Some field → control_of field ≡ Some x.mid → j ≡ i + 1
-    → after ≡ values ++ x ∷ [] → raws values ++ map control (drop i fields) ≡ all → raws after ++ map control (drop j fields) ≡ all
+    → after ≡ values ++ x ∷ [] → raws values ++ map control_or_zero (drop i fields) ≡ all → raws after ++ map control_or_zero (drop j fields) ≡ all
 controls-step fields i j field x values after all h e n grew before =
     let s : j ≡ suc i = omega arith in
     rw (s, grew, map-append, append_assoc) (rw (controls fields i field x.mid h e) at before)
@@ -57,7 +57,7 @@ kept : (b : Bool) (w v : ℤ) → (b ≡ true → unsigned_abs w ≤ control_lim
 kept true w v f h = let e : w ≡ v = cc in rw (← e) (f refl)
 kept false w v f h = absurd cc
 
-small : (r : Result ℤ DecimalFault) (v : ℤ) → within_limit r ≡ Some v → unsigned_abs v ≤ control_limit
+small : (r : Result ℤ DecimalFault) (v : ℤ) → small_control r ≡ Some v → unsigned_abs v ≤ control_limit
 small (Ok w) v h = kept (leb (unsigned_abs w) control_limit) w v (leb-true (unsigned_abs w) control_limit) h
 small (Err e) v h = absurd cc
 

@@ -9,7 +9,7 @@ use Rattle.csv.specs.declared.parser.State.TheVariants as st
 use Rattle.csv.specs.declared.reader.Reader.{Reader}
 use Rattle.mj_types.specs.Control.{Control}
 use Rattle.mj_types.specs.declared.tape.TapeFault.{TapeFault}
-use Rattle.mj_tape.specs.Judging.{first_fault, record_fault, values_of, raws, control}
+use Rattle.mj_tape.specs.Judging.{first_fault, record_fault, record_controls, raws, control_or_zero}
 
 -- a record takes a byte at least, or it is the last, which the end of the text ends
 abbrev Shorter : Read → List ℕ → Type 0
@@ -45,7 +45,7 @@ pub record Left (width room : ℕ) (text : List ℕ) (count : ℕ) (values : Lis
   pub total : count + fuel ≡ length text + 1
   pub enough : Enough fuel s y
   pub faults : first_fault width room (suc count) (records_from default_config fuel s y) ≡ first_fault width room 1 (records default_config text)
-  pub held : raws values ++ values_of (records_from default_config fuel s y) ≡ values_of (records default_config text)
+  pub held : raws values ++ record_controls (records_from default_config fuel s y) ≡ record_controls (records default_config text)
   pub counted : count + length (records_from default_config fuel s y) ≡ length (records default_config text)
 
 pub left-start : (width room : ℕ) (text : List ℕ) → Left width room text 0 [] st.StartRecord text
@@ -80,7 +80,7 @@ first-left fuel s y p m e h = rw e (records-more m s y p h)
 
 left-more : (width room : ℕ) (text : List ℕ) (count : ℕ) (values after : List Control) (s : State) (y : List ℕ) (p : Read)
     → Left width room text count values s y → next_record default_config s [] [] y ≡ Some p
-    → record_fault width room (suc count) p.0 ≡ None → raws after ≡ raws values ++ map control p.0
+    → record_fault width room (suc count) p.0 ≡ None → raws after ≡ raws values ++ map control_or_zero p.0
     → Left width room text (suc count) after p.1 p.2
 left-more width room text count values after s y p left h good grew =
     let f = fuel-left left.fuel s y p left.enough h in
@@ -98,7 +98,7 @@ left-more width room text count values after s y p left h good grew =
 -- a record is taken: what is left behind it
 pub left-step : (width room : ℕ) (text : List ℕ) (count next : ℕ) (values after : List Control) (s b : State) (y : List ℕ) (p : Read) (fields : List (List ℕ))
     → Left width room text count values s y → next_record default_config s [] [] y ≡ Some p → fields ≡ p.0 → b ≡ p.1
-    → next ≡ count + 1 → record_fault width room next fields ≡ None → raws after ≡ raws values ++ map control fields
+    → next ≡ count + 1 → record_fault width room next fields ≡ None → raws after ≡ raws values ++ map control_or_zero fields
     → Left width room text next after b p.2
 left-step width room text count next values after s b y p fields left h ef eb en good grew =
     let e : next ≡ suc count = omega arith in
@@ -124,7 +124,7 @@ left-fault width room text count next values s y p fields fault left h ef en bad
 
 pub left-end : (width room : ℕ) (text : List ℕ) (count : ℕ) (values : List Control) (s : State) (y : List ℕ)
     → Left width room text count values s y → next_record default_config s [] [] y ≡ None
-    → (first_fault width room 1 (records default_config text) ≡ None) × (count ≡ length (records default_config text)) × (raws values ≡ values_of (records default_config text))
+    → (first_fault width room 1 (records default_config text) ≡ None) × (count ≡ length (records default_config text)) × (raws values ≡ record_controls (records default_config text))
 left-end width room text count values s y left h =
     let e = records-none left.fuel s y h in
     let n : count + 0 ≡ length (records default_config text) = rw e at left.counted in

@@ -28,8 +28,11 @@ fn control(field: &[u8]) -> Option<Fix<32>>
 fn control_at(fields: &ByteRecord, number: usize, column: usize) -> Result<Fix<32>, TapeFault>
     requires { column < length (fields_of fields.now) }
     ensures { MatchResult result
-        (λ x. (field : List ℕ) × (field_at (fields_of fields.now) column ≡ Some field) × (spec.control_of field ≡ Some x.mid))
-        (λ fault. (field : List ℕ) × (field_at (fields_of fields.now) column ≡ Some field) × (spec.control_of field ≡ None) × (fault ≡ TapeFault.BadNumber number (column + 1))) }
+        (λ x. (field : List ℕ) × (field_at (fields_of fields.now) column ≡ Some field)
+        × (spec.control_of field ≡ Some x.mid))
+        (λ fault. (field : List ℕ) × (field_at (fields_of fields.now) column ≡ Some field)
+        × (spec.control_of field ≡ None)
+        × (fault ≡ TapeFault.BadNumber number (column + 1))) }
 {
     match fields.get(column) {
         Some(field) => match control(field) {
@@ -56,10 +59,9 @@ fn push_fields(
     fields: &ByteRecord,
     number: usize,
 ) -> Result<(), TapeFault>
-    ensures judged { MatchResult result
-        (λ _. spec.bad_field number 1 (fields_of fields.now) ≡ None)
-        (λ fault. (fault ≡ TapeFault.Memory) ⊎ (spec.bad_field number 1 (fields_of fields.now) ≡ Some fault)) }
-    ensures grew { OnOk result (spec.raws values.new.items ≡ spec.raws values.old.items ++ map spec.control (fields_of fields.now)) }
+    ensures judged { spec.FirstOrMemory (spec.bad_field number 1 (fields_of fields.now)) result }
+    ensures grew { OnOk result (spec.raws values.new.items
+        ≡ spec.raws values.old.items ++ map spec.control_or_zero (fields_of fields.now)) }
     ensures small { OnOk result (AreSmall values.old.items → AreSmall values.new.items) }
 {
     for column in 0..fields.len() {
@@ -84,10 +86,10 @@ pub fn push_record(
     width: usize,
     room: usize,
 ) -> Result<(), TapeFault>
-    ensures judged { MatchResult result
-        (λ _. spec.record_fault width room number (fields_of fields.now) ≡ None)
-        (λ fault. (fault ≡ TapeFault.Memory) ⊎ (spec.record_fault width room number (fields_of fields.now) ≡ Some fault)) }
-    ensures grew { OnOk result (spec.raws values.new.items ≡ spec.raws values.old.items ++ map spec.control (fields_of fields.now)) }
+    ensures judged { spec.FirstOrMemory
+        (spec.record_fault width room number (fields_of fields.now)) result }
+    ensures grew { OnOk result (spec.raws values.new.items
+        ≡ spec.raws values.old.items ++ map spec.control_or_zero (fields_of fields.now)) }
     ensures small { OnOk result (AreSmall values.old.items → AreSmall values.new.items) }
 {
     if fields.len() != width {

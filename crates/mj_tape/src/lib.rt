@@ -4,7 +4,7 @@
 mod judge;
 pub mod reading;
 
-pub use reading::tape;
+pub use reading::{tape, tapes_hold_their_fields};
 
 #[cfg(test)]
 mod tests;

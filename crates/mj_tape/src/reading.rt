@@ -1,13 +1,16 @@
 // A tape's file, read record by record.
-ghost use Rattle.std.specs.Prelude.{◌≡◌, ◌⊎◌, ◌++◌, ◌+◌, ◌*◌, ◌≤◌, ℕ, List, Some, None, Ok, Err, length, map, MatchResult, IfOk, ◌<◌};
+ghost use Rattle.std.specs.Prelude.{◌≡◌, ◌⊎◌, ◌++◌, ◌+◌, ◌*◌, ◌≤◌, ℕ, List, Some, None, Ok, Err, length, map, MatchResult, IfOk, IfErr, ◌<◌};
+ghost use Rattle.csv.specs.Reading.{error_kind};
 ghost use Rattle.csv.specs.Records.{fields_of};
+ghost use Rattle.mj_io.specs.Memory.{OrMemory};
 ghost use Rattle.mj_types.specs.Control.{AreSmall};
 ghost use Rattle.mj_tape.specs.Judging as spec;
 
 use crate::judge::push_record;
 use csv::{ByteRecord, ReaderBuilder};
+use fx_list::Array;
 use fx_num::Fix;
-use mj_types::{Controls, SlideModel, Tape, TapeFault};
+use mj_types::{SlideModel, Tape, TapeFault};
 use std::alloc::Global;
 
 // The greatest length of a tape's file.
@@ -20,8 +23,10 @@ struct Records {
     values: Vec<Fix<32>>,
 }
 
-// A reader over bytes that takes records of any length has no error but want of memory.
+// A reader over bytes that takes records of any length has no error but want of memory. That the bytes
+// themselves can't fail is the one thing here that csv's clauses don't say.
 fn record_of(row: Result<ByteRecord, csv::Error>) -> Result<ByteRecord, TapeFault>
+    requires { IfErr row (λ error. spec.IsExpected (error_kind error)) }
     ensures { MatchResult result (λ fields. row ≡ Ok fields) (λ fault. fault ≡ TapeFault.Memory) }
 {
     match row {
@@ -38,10 +43,10 @@ fn read_records(
     room: usize,
 ) -> Result<Records, TapeFault>
     requires { length bytes.now ≤ spec.file_limit }
-    ensures judged { MatchResult result
-        (λ _. spec.first_fault width room 1 (spec.records_of bytes.now) ≡ None)
-        (λ fault. (fault ≡ TapeFault.Memory) ⊎ (spec.first_fault width room 1 (spec.records_of bytes.now) ≡ Some fault)) }
-    ensures held { IfOk result (λ read. (read.count ≡ length (spec.records_of bytes.now)) × (spec.raws read.values.items ≡ spec.values_of (spec.records_of bytes.now))) }
+    ensures judged { spec.FirstOrMemory
+        (spec.first_fault width room 1 (spec.records_of bytes.now)) result }
+    ensures held { IfOk result (λ read. (read.count ≡ length (spec.records_of bytes.now))
+        × (spec.raws read.values.items ≡ spec.record_controls (spec.records_of bytes.now))) }
     ensures small { IfOk result (λ read. AreSmall read.values.items) }
 {
     let rdr = ReaderBuilder::new()
@@ -63,7 +68,8 @@ fn unless_short(read: Records, width: usize, steps: u32) -> Result<Tape, TapeFau
     requires filled { length read.values.items ≡ read.count * width }
     requires small { AreSmall read.values.items }
     ensures { MatchResult result
-        (λ t. (steps ≤ read.count) × (t.rows ≡ read.count) × (t.width ≡ width) × (t.values ≡ read.values.items))
+        (λ t. (steps ≤ read.count) × (t.rows ≡ read.count) × (t.width ≡ width)
+        × (t.values ≡ read.values.items))
         (λ fault. (read.count < steps) × (fault ≡ TapeFault.Short read.count)) }
 {
     if read.count < steps as usize {
@@ -72,7 +78,7 @@ fn unless_short(read: Records, width: usize, steps: u32) -> Result<Tape, TapeFau
     Ok(Tape {
         rows: read.count,
         width,
-        values: Controls::from_vec(read.values),
+        values: Array::from_vec(read.values),
     })
 }
 
@@ -94,7 +100,8 @@ pub fn tape(
     steps: u32,
     room: usize,
 ) -> Result<Tape, TapeFault>
-    ensures { spec.OrMemory (spec.seen result) (spec.judged (length model.now.motors) steps room bytes.now) }
+    ensures { OrMemory TapeFault.Memory (spec.seen result)
+        (spec.tape_verdict (length model.now.motors) steps room bytes.now) }
 {
     if bytes.len() > FILE_LIMIT {
         return Err(TapeFault::TooLarge);
@@ -103,3 +110,9 @@ pub fn tape(
     let read = read_records(alloc, bytes, width, room)?;
     unless_short(read, width, steps)
 }
+
+/// Value j of row k of an accepted tape is the control that field j of record k writes. It has a row
+/// for each record and a column for each motor.
+pub fn tapes_hold_their_fields()
+    ensures { spec.TapesHoldFields }
+{}

@@ -1,7 +1,8 @@
-// What no clause says: examples, that calls can succeed, and that the reader has no error but memory.
+// What no clause says: examples, and that calls can succeed.
 use super::*;
+use fx_list::Array;
 use fx_num::Number;
-use mj_types::{Motors, SlideModel, SlideMotor, Tape, TapeFault};
+use mj_types::{SlideModel, SlideMotor, Tape, TapeFault};
 use std::alloc::{AllocError, Global};
 use std::test::Fail;
 
@@ -13,6 +14,11 @@ fn each_type_can_be_sent_and_shared() {
     is_shared::<TapeFault>();
 }
 
+#[test]
+fn the_law_can_be_cited() {
+    tapes_hold_their_fields();
+}
+
 fn model(alloc: Global, motors: usize) -> Result<SlideModel, AllocError> {
     let motor = SlideMotor {
         gear: Number::from_raw(1),
@@ -22,7 +28,7 @@ fn model(alloc: Global, motors: usize) -> Result<SlideModel, AllocError> {
         h: Number::from_raw(8_589_935),
         gravity: Number::from_raw(0),
         mass: 1,
-        motors: Motors::from_vec(vec![in alloc; motor; motors]?),
+        motors: Array::from_vec(vec![in alloc; motor; motors]?),
     })
 }
 

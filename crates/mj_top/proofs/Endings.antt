@@ -3,7 +3,7 @@ use Rattle.std.proofs.Common.{◌≡◌, inl, inr, ℕ, Bool, List, Option, Some
 use Rattle.mj_io.specs.Faults.{Rose}
 use Rattle.mj_io.specs.Growth.{Grew}
 use Rattle.mj_io.specs.Sent.{Wrote}
-use Rattle.mj_types.specs.declared.model.SlideModel.{SlideModel}
+use Rattle.mj_types.specs.declared.slide.SlideModel.{SlideModel}
 use Rattle.mj_types.specs.declared.range.End.{End}
 use Rattle.mj_types.specs.declared.range.End.TheVariants as finish
 use Rattle.mj_types.specs.declared.status.ModelFault.{ModelFault}
@@ -11,7 +11,7 @@ use Rattle.mj_types.specs.declared.status.Status.{Status}
 use Rattle.mj_types.specs.declared.status.Status.TheVariants as status
 use Rattle.mj_types.specs.declared.tape.TapeFault.{TapeFault}
 use Rattle.mj_tape.specs.Judging.{TapeValues}
-use Rattle.mj_top.specs.Controls.{control}
+use Rattle.mj_top.specs.Controls.{tape_control}
 use Rattle.mj_top.specs.Run.{run}
 use Rattle.mj_top.specs.Words.{bad_place}
 use Rattle.mj_top.specs.Outcome.{Outcome, words_refused, status_of, with_tape, with_tape_file, with_model, outcome}
@@ -38,7 +38,7 @@ later-status_of finish.Done = tt
 later-status_of (finish.OutOfRange step kind index) = tt
 
 pub later-with_tape : (n : ℕ) (model : SlideModel) (answer : Result TapeValues TapeFault) → IsLater (with_tape n model answer).status
-later-with_tape n model (Ok tape) = later-status_of (run model (control (Some tape)) n).finish
+later-with_tape n model (Ok tape) = later-status_of (run model (tape_control (Some tape)) n).finish
 later-with_tape n model (Err fault) = tt
 
 same_status : (o : Option Outcome) (x y : Outcome) (answer : Status) → o ≡ Some x → o ≡ Some y → answer ≡ y.status → answer ≡ x.status

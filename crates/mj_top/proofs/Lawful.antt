@@ -1,5 +1,5 @@
 -- Each model that is accepted is lawful.
-use Rattle.std.proofs.Common.{◌≡◌, ℕ, suc, ◌*◌, ◌^◌, ◌≤◌, ℤ, pos, negsuc, ◌≤ℤ◌, ◌*ℤ◌, int_le, not, unsigned_abs, nat_le, true, ◌&&◌, ◌==◌, cond, List, [], ◌∷◌, length, codes, bytes_eq, Option, Some, None, option_map, option_and_then, ok_or, Result, Ok, Err, IfSome, All, inl, inr, sym, ap, subst, ◌∙◌, arith}
+use Rattle.std.proofs.Common.{◌≡◌, ℕ, suc, ◌*◌, ◌^◌, ◌≤◌, ℤ, pos, negsuc, ◌<ℤ◌, ◌≤ℤ◌, ◌*ℤ◌, int_le, not, unsigned_abs, nat_le, true, ◌&&◌, ◌==◌, cond, List, [], ◌∷◌, length, codes, bytes_eq, Option, Some, None, option_map, option_and_then, ok_or, Result, Ok, Err, IfSome, All, inl, inr, sym, ap, subst, ◌∙◌, arith}
 use Rattle.std.proofs.lemmas.Bool.{and_parts}
 use Rattle.std.proofs.lemmas.Bool.Decides.{nat_tests}
 use Rattle.std.proofs.lemmas.Int.{ints, unsigned_abs-mul}
@@ -7,19 +7,20 @@ use Rattle.std.proofs.lemmas.Option.{same_Some}
 use Rattle.std.proofs.lemmas.List.Elements.{All-nil, All-cons}
 use Rattle.toml.specs.Data.{Data, Items, no_items, item, Members, get_member, get_item, as_integer, as_array, as_table}
 use Rattle.fx_num.specs.declared.number.Number.{Number}
-use Rattle.fx_whole.proofs.Ring.{mul_mono}
+use Rattle.fx_whole.proofs.Ring.{mul_step}
 use Rattle.fx_text.specs.Decimal.{decimal}
 use Rattle.fx_text.specs.declared.decimal.DecimalFault.{DecimalFault}
-use Rattle.mj_types.specs.declared.model.SlideModel.{SlideModel}
+use Rattle.mj_types.specs.declared.slide.SlideModel.{SlideModel}
 use Rattle.mj_types.specs.declared.tape.SlideMotor.{SlideMotor}
-use Rattle.mj_types.specs.declared.tape.ControlRange.{ControlRange}
+use Rattle.mj_types.specs.declared.parts.Range.{Range}
 use Rattle.mj_types.specs.declared.status.ModelCode.{ModelCode}
 use Rattle.mj_types.specs.declared.status.ModelCode.TheVariants.{NotBuilt, Memory}
 use Rattle.mj_top.specs.declared.model.Settings.{Settings}
 use Rattle.mj_top.specs.Document.{at_scale, between, integer_between, integer_item, integer_at, third_of, third_of_three, count, only_keys, text_at, table_at, items_at, only_table_at}
 use Rattle.mj_top.specs.Lawful.{IsLawful, IsLawfulMotor, IsLawfulRange}
-use Rattle.mj_top.specs.Model.{OrMemory, built, refusal, slide_model, settings_at, settings_of, option_of, named_mass, gravity_of, body_of, body_name, inertial_of, joint_in}
-use Rattle.mj_top.specs.Motors.{gear_of, range_from, range_of_two, range_of, ctrlrange_of, geared, motor_on, motor_of, motor_in, each_motor, motors_of, motors_in, motors_at, BuiltOrMemory}
+use Rattle.mj_io.specs.Memory.{OrMemory}
+use Rattle.mj_top.specs.Model.{built, refusal, slide_model, settings_at, settings_of, option_of, named_mass, gravity_of, body_of, body_name, inertial_of, joint_in}
+use Rattle.mj_top.specs.Motors.{gear_of, range_from, range_of_two, range_of, ctrlrange_of, gear_and_range, motor_on, motor_of, motor_in, each_motor, motors_of, motors_in, motors_at, BuiltOrMemory}
 use Rattle.mj_top.specs.Timestep.{timestep_from, timestep_of}
 use Rattle.mj_top.proofs.Options.{then-some, map-some, if-some, found, missing}
 
@@ -31,7 +32,7 @@ record Within (least most z : ℤ) : Type 0 where
 tested : (a b : ℤ) → int_le a b ≡ true → a ≤ℤ b
 tested a b e = grind (arith, ints)
 
-failed : (a b : ℤ) → not (int_le a b) ≡ true → b ≤ℤ a
+failed : (a b : ℤ) → not (int_le a b) ≡ true → b <ℤ a
 failed a b e = grind (arith, ints)
 
 between-within : (least most number z : ℤ) → between least most number ≡ Some z → Within least most z
@@ -65,8 +66,8 @@ scaled-size number size h = times (2 ^ 32) number size h
     times : (k : ℕ) (number : ℤ) (size : ℕ) → unsigned_abs number ≤ size → unsigned_abs (number *ℤ pos k) ≤ size * k
     times k number size h = rw (unsigned_abs-mul number (pos k)) (grind (arith, h))
 
-scaled-order : (a b : ℤ) → a ≤ℤ b → (a *ℤ pos (2 ^ 32)) ≤ℤ (b *ℤ pos (2 ^ 32))
-scaled-order a b h = mul_mono a b (pos (2 ^ 32)) (omega (arith, ints)) h
+scaled-order : (a b : ℤ) → a <ℤ b → (a *ℤ pos (2 ^ 32)) <ℤ (b *ℤ pos (2 ^ 32))
+scaled-order a b h = omega (arith, ints, mul_step a b (pos (2 ^ 32)) (omega (arith, ints)) h)
 
 size-1024 : (z : ℤ) → Within (negsuc 1023) (pos 1024) z → unsigned_abs z ≤ 1024
 size-1024 z within = omega (arith, ints)
@@ -153,9 +154,9 @@ gear-lawful None gear e = scaled-1024 (Some (pos 1)) gear (λ z same. one z same
     one z e = let same : pos 1 ≡ z = cc in subst (λ x. Within (negsuc 1023) (pos 1024) x) same (record { above = omega (arith, ints); below = omega (arith, ints) })
 gear-lawful (Some value) gear e = scaled-1024 (integer_between (negsuc 1023) (pos 1024) value) gear (integer_between-within (negsuc 1023) (pos 1024) value) e
 
-range_from-lawful : (least greatest : ℤ) (range : ControlRange) → Within (negsuc 1048575) (pos 1048576) least → Within (negsuc 1048575) (pos 1048576) greatest → range_from least greatest ≡ Some range → IsLawfulRange range
+range_from-lawful : (least greatest : ℤ) (range : Range) → Within (negsuc 1048575) (pos 1048576) least → Within (negsuc 1048575) (pos 1048576) greatest → range_from least greatest ≡ Some range → IsLawfulRange range
 range_from-lawful least greatest range low high e =
-    let made : ControlRange = record { least = at_scale least; greatest = at_scale greatest } in
+    let made : Range = record { least = at_scale least; greatest = at_scale greatest } in
     let form = if-some (not (int_le greatest least)) (Some made) range e in
     let same : made ≡ range = let q = form.1 in cc in
     subst IsLawfulRange same (record {
@@ -164,7 +165,7 @@ range_from-lawful least greatest range low high e =
       ascends = scaled-order least greatest (failed greatest least form.0);
     })
 
-range-lawful : (items : Items) (range : ControlRange) → range_of items ≡ Some range → IsLawfulRange range
+range-lawful : (items : Items) (range : Range) → range_of items ≡ Some range → IsLawfulRange range
 range-lawful items range e =
     let form = if-some (count items == 2) (range_of_two items) range e in
     let low = integer_item 0 (negsuc 1048575) (pos 1048576) items in
@@ -176,24 +177,24 @@ range-lawful items range e =
     (integer_item-within 1 (negsuc 1048575) (pos 1048576) items greatest.0 greatest.1)
     greatest.2
 
-ctrlrange-lawful : (value : Option Data) (range : Option ControlRange) → ctrlrange_of value ≡ Some range → IfSome range IsLawfulRange
+ctrlrange-lawful : (value : Option Data) (range : Option Range) → ctrlrange_of value ≡ Some range → IfSome range IsLawfulRange
 ctrlrange-lawful None range e = let same : None ≡ range = cc in subst (λ r. IfSome r IsLawfulRange) same tt
 ctrlrange-lawful (Some value) range e =
     let p = map-some Some (option_and_then range_of (as_array value)) range e in
     let items = then-some range_of (as_array value) p.0 p.1 in
     subst (λ r. IfSome r IsLawfulRange) p.2 (range-lawful items.0 p.0 items.2)
 
-abbrev motor_with : Number (Unit {0}) 32 → Option ControlRange → SlideMotor
+abbrev motor_with : Number (Unit {0}) 32 → Option Range → SlideMotor
 motor_with gear range = record { gear = gear; ctrlrange = range }
 
-motor-from : (gear : Number (Unit {0}) 32) (range : Option ControlRange) (motor : SlideMotor) → unsigned_abs gear.mid ≤ 1024 * 2 ^ 32 → IfSome range IsLawfulRange → Some (motor_with gear range) ≡ Some motor → IsLawfulMotor motor
+motor-from : (gear : Number (Unit {0}) 32) (range : Option Range) (motor : SlideMotor) → unsigned_abs gear.mid ≤ 1024 * 2 ^ 32 → IfSome range IsLawfulRange → Some (motor_with gear range) ≡ Some motor → IsLawfulMotor motor
 motor-from gear range motor small lawful e = let same : motor_with gear range ≡ motor = cc in subst IsLawfulMotor same (record { gear = small; range = lawful })
 
-geared-lawful : (table : Members) (motor : SlideMotor) → geared table ≡ Some motor → IsLawfulMotor motor
-geared-lawful table motor e =
+gear_and_range-lawful : (table : Members) (motor : SlideMotor) → gear_and_range table ≡ Some motor → IsLawfulMotor motor
+gear_and_range-lawful table motor e =
     let gear_value = get_member (codes "gear") table in
     let range_value = get_member (codes "ctrlrange") table in
-    let from_range = λ (gear : Number (Unit {0}) 32) (range : Option ControlRange). Some (motor_with gear range) in
+    let from_range = λ (gear : Number (Unit {0}) 32) (range : Option Range). Some (motor_with gear range) in
     let gear = then-some (λ g. option_and_then (from_range g) (ctrlrange_of range_value)) (gear_of gear_value) motor e in
     let range = then-some (from_range gear.0) (ctrlrange_of range_value) motor gear.2 in
     motor-from gear.0 range.0 motor (gear-lawful gear_value gear.0 gear.1) (ctrlrange-lawful range_value range.0 range.1) range.2
@@ -202,9 +203,9 @@ motor-lawful : (joint : List ℕ) (value : Data) (motor : SlideMotor) → motor_
 motor-lawful joint value motor e =
     let table = then-some (motor_of joint) (as_table value) motor e in
     let form = if-some (only_keys (codes "joint" ∷ codes "gear" ∷ codes "ctrlrange" ∷ []) table.0) (motor_on joint table.0) motor table.2 in
-    let name = then-some (λ n. cond (bytes_eq n joint) (geared table.0) None) (text_at (codes "joint") table.0) motor form.1 in
-    let same = if-some (bytes_eq name.0 joint) (geared table.0) motor name.2 in
-    geared-lawful table.0 motor same.1
+    let name = then-some (λ n. cond (bytes_eq n joint) (gear_and_range table.0) None) (text_at (codes "joint") table.0) motor form.1 in
+    let same = if-some (bytes_eq name.0 joint) (gear_and_range table.0) motor name.2 in
+    gear_and_range-lawful table.0 motor same.1
 
 -- the motors of an array: each is lawful, and there is one for each item
 each-lawful : (joint : List ℕ) (items : Items) (motors : List SlideMotor) → each_motor joint items ≡ Some motors → All IsLawfulMotor motors × (length motors ≡ count items)
@@ -268,13 +269,13 @@ model-lawful table model e =
     })
 
 -- what bytes are judged to be, where memory was found
-pub built-ok : (model : SlideModel) (table : Members) → BuiltOrMemory (Ok model) (slide_model table) → OrMemory (Ok model) (built table) × IsLawful model
+pub built-ok : (model : SlideModel) (table : Members) → BuiltOrMemory (Ok model) (slide_model table) → OrMemory (refusal Memory) (Ok model) (built table) × IsLawful model
 built-ok model table (inl memory) = absurd (cc)
 built-ok model table (inr answer) =
     let some = found (slide_model table) NotBuilt model (sym answer) in
     (inr (sym (ap (λ o. ok_or o (refusal NotBuilt)) some)), model-lawful table model some)
 
-pub built-err : (code : ModelCode) (table : Members) → BuiltOrMemory (Err code) (slide_model table) → OrMemory (Err (refusal code)) (built table)
+pub built-err : (code : ModelCode) (table : Members) → BuiltOrMemory (Err code) (slide_model table) → OrMemory (refusal Memory) (Err (refusal code)) (built table)
 built-err code table (inl memory) = let same : code ≡ Memory = cc in inl (ap (λ c. Err (refusal c)) same)
 built-err code table (inr answer) =
     let none = missing (slide_model table) NotBuilt code (sym answer) in

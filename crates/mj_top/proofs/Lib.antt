@@ -9,3 +9,4 @@ pub mod Options
 pub mod Parts
 pub mod Served
 pub mod Steps
+pub mod Accepted

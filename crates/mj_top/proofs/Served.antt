@@ -1,56 +1,35 @@
 -- What an accepted tape serves.
 use Rattle.std.proofs.Common.{◌≡◌, ◌⊎◌, inl, inr, ℕ, ◌*◌, ◌^◌, ◌≤◌, unsigned_abs, pos, Bool, true, false, nat_lt, List, length, Option, Some, None, Result, Ok, Err, refl, sym, ap, arith, ltb-false, if◌then◌else◌}
-use Rattle.mj_types.specs.declared.model.SlideModel.{SlideModel}
-use Rattle.mj_types.specs.declared.status.ModelFault.{ModelFault}
-use Rattle.mj_types.specs.declared.status.ModelCode.TheVariants as code
+use Rattle.mj_types.specs.declared.slide.SlideModel.{SlideModel}
 use Rattle.mj_types.specs.declared.tape.TapeFault.{TapeFault}
-use Rattle.mj_types.specs.declared.tape.TapeFault.TheVariants.{TooLarge, Short, Memory}
+use Rattle.mj_types.specs.declared.tape.TapeFault.TheVariants.{TooLarge, Short}
 use Rattle.std.proofs.lemmas.Bool.{cases_lt}
-use Rattle.mj_top.specs.Model.{refusal}
 use Rattle.mj_top.specs.Lawful.{IsLawful, IsLawfulMotor}
 use Rattle.std.proofs.lemmas.List.{get_or_past}
 use Rattle.std.proofs.lemmas.List.Elements.{All-get_or}
 use Rattle.mj_top.specs.Step.{motor, plain}
-use Rattle.mj_tape.specs.Judging.{TapeValues, judged, unless_short, records_of, first_fault, values_of, file_limit}
+use Rattle.mj_tape.specs.Judging.{TapeValues, tape_verdict, unless_short, records_of, first_fault, record_controls, file_limit}
 
 -- a tape that isn't short has each of the steps
 unless-serves : (w n : ℕ) (rows : List (List (List ℕ))) (f : Option TapeFault) (v : TapeValues) → unless_short w n rows f ≡ Ok v → (v.width ≡ w) × (n ≤ v.rows)
 unless-serves w n rows (Some fault) v e = absurd cc
 unless-serves w n rows None v e = chosen (nat_lt (length rows) n) refl e
   where
-    chosen : (b : Bool) → nat_lt (length rows) n ≡ b → (if b then Err (Short (length rows)) else Ok (record { rows = length rows; width = w; values = values_of rows })) ≡ Ok v → (v.width ≡ w) × (n ≤ v.rows)
+    chosen : (b : Bool) → nat_lt (length rows) n ≡ b → (if b then Err (Short (length rows)) else Ok (record { rows = length rows; width = w; values = record_controls rows })) ≡ Ok v → (v.width ≡ w) × (n ≤ v.rows)
     chosen true t d = absurd cc
     chosen false t d =
-        let this : TapeValues = record { rows = length rows; width = w; values = values_of rows } in
+        let this : TapeValues = record { rows = length rows; width = w; values = record_controls rows } in
         let same : this ≡ v = cc in
         let enough : n ≤ length rows = ltb-false (length rows) n t in
         (ap (λ x. x.width) (sym same), rw (sym same) enough)
 
-pub judged-serves : (w n room : ℕ) (bytes : List ℕ) (v : TapeValues) → judged w n room bytes ≡ Ok v → (v.width ≡ w) × (n ≤ v.rows)
-unfolding judged
+pub judged-serves : (w n room : ℕ) (bytes : List ℕ) (v : TapeValues) → tape_verdict w n room bytes ≡ Ok v → (v.width ≡ w) × (n ≤ v.rows)
+unfolding tape_verdict
 judged-serves w n room bytes v e = limited (nat_lt file_limit (length bytes)) e
   where
     limited : (b : Bool) → (if b then Err TooLarge else unless_short w n (records_of bytes) (first_fault w room 1 (records_of bytes))) ≡ Ok v → (v.width ≡ w) × (n ≤ v.rows)
     limited true d = absurd cc
     limited false d = unless-serves w n (records_of bytes) (first_fault w room 1 (records_of bytes)) v d
-
--- an answer that is no want of memory is the one that is judged
-pub tape-ok : (v : TapeValues) (answer : Result TapeValues TapeFault) → (◌≡◌ {A = Result TapeValues TapeFault} (Ok v) (Err Memory)) ⊎ (◌≡◌ {A = Result TapeValues TapeFault} (Ok v) answer) → answer ≡ Ok v
-tape-ok v answer (inl wanted) = cc
-tape-ok v answer (inr same) = sym same
-
-pub tape-err : (fault : TapeFault) (answer : Result TapeValues TapeFault) → (fault ≡ Memory → ⊥) → (◌≡◌ {A = Result TapeValues TapeFault} (Err fault) (Err Memory)) ⊎ (◌≡◌ {A = Result TapeValues TapeFault} (Err fault) answer) → answer ≡ Err fault
-tape-err fault answer other (inl wanted) = absurd (other (let same : fault ≡ Memory = cc in same))
-tape-err fault answer other (inr same) = sym same
-
--- the same of a model
-pub model-ok : (model : SlideModel) (judged : Result SlideModel ModelFault) → (◌≡◌ {A = Result SlideModel ModelFault} (Ok model) (Err (refusal code.Memory))) ⊎ (◌≡◌ {A = Result SlideModel ModelFault} (Ok model) judged) → judged ≡ Ok model
-model-ok model judged (inl wanted) = cc
-model-ok model judged (inr same) = sym same
-
-pub model-err : (fault : ModelFault) (judged : Result SlideModel ModelFault) → (fault.code ≡ code.Memory → ⊥) → (◌≡◌ {A = Result SlideModel ModelFault} (Err fault) (Err (refusal code.Memory))) ⊎ (◌≡◌ {A = Result SlideModel ModelFault} (Err fault) judged) → judged ≡ Err fault
-model-err fault judged other (inl wanted) = absurd (other (let same : fault ≡ refusal code.Memory = cc in ap (λ f. f.code) same))
-model-err fault judged other (inr same) = sym same
 
 -- the gears of an accepted model
 pub lawful-gears : (model : SlideModel) → IsLawful model → (j : ℕ) → unsigned_abs (motor model.motors j).gear.mid ≤ 1024 * 2 ^ 32

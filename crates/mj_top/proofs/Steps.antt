@@ -5,7 +5,7 @@ use Rattle.std.proofs.lemmas.List.Concat.{flat_map-append}
 use Rattle.std.proofs.lemmas.Bool.{cases_lt}
 use Rattle.fx_whole.specs.First.{first_to}
 use Rattle.fx_whole.proofs.FirstLaws.{first_here, first_none, first_some, first_more, or_pass}
-use Rattle.mj_types.specs.declared.model.SlideModel.{SlideModel}
+use Rattle.mj_types.specs.declared.slide.SlideModel.{SlideModel}
 use Rattle.mj_types.specs.declared.range.OutOfRange.{OutOfRange}
 use Rattle.mj_types.specs.declared.range.End.TheVariants as finish
 use Rattle.mj_top.specs.declared.step.State.{State}
@@ -59,8 +59,8 @@ module _ (model : SlideModel) (controls : ℕ → ℕ → ℤ) where
       ∙ ap (λ x. blocks_text (blocks_to model controls k) ++ x) (append-nil (block_text (block_at model controls k)))
 
   -- the blocks of a longer run begin with those of a shorter one
-  pub blocks-front : (k n : ℕ) → k ≤ n → (y : List ℕ) × (blocks_text (blocks_to model controls n) ≡ blocks_text (blocks_to model controls k) ++ y)
-  blocks-front k n h =
+  pub blocks-prefix : (k n : ℕ) → k ≤ n → (y : List ℕ) × (blocks_text (blocks_to model controls n) ≡ blocks_text (blocks_to model controls k) ++ y)
+  blocks-prefix k n h =
       elim (cases_lt k n) [
         | inl below ↦ blocks-step n below
         | inr past ↦ let same : n ≡ k = omega arith in ([], ap (λ j. blocks_text (blocks_to model controls j)) same ∙ sym (append-nil (blocks_text (blocks_to model controls k))))
@@ -74,8 +74,8 @@ module _ (model : SlideModel) (controls : ℕ → ℕ → ℤ) where
           let more : blocks_text (blocks_to model controls (suc n)) ≡ blocks_text (blocks_to model controls n) ++ last = ap (λ j. blocks_text (blocks_to model controls j)) counted ∙ blocks-more n in
           elim (cases_lt k n) [
             | inl within ↦
-                let front = blocks-step n within in
-                (front.0 ++ last, more ∙ ap (λ x. x ++ last) front.1 ∙ append_assoc (blocks_text (blocks_to model controls k)) front.0 last)
+                let prefix = blocks-step n within in
+                (prefix.0 ++ last, more ∙ ap (λ x. x ++ last) prefix.1 ∙ append_assoc (blocks_text (blocks_to model controls k)) prefix.0 last)
             | inr there ↦
                 let same : n ≡ k = omega arith in
                 (last, more ∙ ap (λ j. blocks_text (blocks_to model controls j) ++ last) same)

@@ -1,4 +1,5 @@
--- What the keys of a document's table hold, type by type: nothing, where a key is missing or holds another type.
+-- What the keys of a document's table hold, type by type: nothing, where a key is missing or holds
+-- another type.
 use Rattle.std.specs.Prelude.{ℕ, suc, ℤ, pos, ◌*ℤ◌, ◌^◌, int_le, Bool, true, false, ◌&&◌, ◌||◌, ◌==◌, if◌then◌else◌, List, [], ◌∷◌, Option, Some, None, option_and_then, bytes_eq}
 use Rattle.toml.specs.Data.{Data, Items, no_items, item, Members, no_members, member, get_member, get_item, as_str, as_integer, as_array, as_table}
 use Rattle.fx_num.specs.declared.number.Number.{Number}
@@ -55,7 +56,8 @@ integer_item index least most items = get_item index items >>= integer_between l
 
 -- the third of an array's first three whole numbers, each from least to most
 abbrev pub third_of : ℤ → ℤ → Items → Option ℤ
-third_of least most items = integer_item 0 least most items >>= (λ x. integer_item 1 least most items >>= (λ y. integer_item 2 least most items))
+third_of least most items =
+    integer_item 0 least most items >>= (λ x. integer_item 1 least most items >>= (λ y. integer_item 2 least most items))
 
 -- the third of an array's three whole numbers, each from least to most
 abbrev pub third_of_three : ℤ → ℤ → Items → Option ℤ

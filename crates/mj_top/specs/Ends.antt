@@ -4,10 +4,10 @@ use Rattle.mj_io.specs.Faults.{Rose}
 use Rattle.mj_io.specs.Growth.{Grew, GrewPart}
 use Rattle.mj_types.specs.declared.status.Status.{Status}
 use Rattle.mj_types.specs.declared.status.Status.TheVariants as status
-use Rattle.mj_types.specs.declared.model.SlideModel.{SlideModel}
+use Rattle.mj_types.specs.declared.slide.SlideModel.{SlideModel}
 use Rattle.mj_types.specs.declared.status.ModelFault.{ModelFault}
 use Rattle.mj_top.specs.Words.{bad_place, model_of, tape_of}
-use Rattle.mj_top.specs.Model.{model_judged}
+use Rattle.mj_top.specs.Model.{model_verdict}
 use Rattle.mj_top.specs.Outcome.{Outcome, model_cap}
 
 -- the status is the outcome's, and its whole text was written
@@ -15,14 +15,16 @@ pub record EndsWhole (outcome : Outcome) (old : Option (List ℕ)) (answer : Sta
   pub same : answer ≡ outcome.status
   pub grew : Grew old outcome.text new
 
--- against an outcome that is known: the whole of it, or a front of its text after a fault of the sink; another fault leaves the sink as it was
+-- against an outcome that is known: the whole of it, or a prefix of its text after a fault of the
+-- sink; another fault leaves the sink as it was
 abbrev pub EndsAs : Outcome → Status → Option (List ℕ) → Option (List ℕ) → Type 0
 EndsAs outcome status.ReadFault old new = new ≡ old
 EndsAs outcome status.Memory old new = new ≡ old
 EndsAs outcome status.WriteFault old new = GrewPart old outcome.text new
 EndsAs outcome answer old new = EndsWhole outcome old answer new
 
--- against the outcome of words and files: where there is none, a file was read in vain, or memory was wanted
+-- against the outcome of words and files: where there is none, a file was read in vain, or memory
+-- was wanted
 abbrev pub Answers : Option Outcome → Status → Option (List ℕ) → Option (List ℕ) → Type 0
 Answers o status.ReadFault old new = new ≡ old
 Answers o status.Memory old new = new ≡ old
@@ -40,22 +42,27 @@ Judges judged = (model : SlideModel) × (judged ≡ Ok model)
 
 -- the model's file is held, and its model accepted
 abbrev pub AcceptsModel : List (List ℕ) → (List ℕ → Option (List ℕ)) → Type 0
-AcceptsModel words held = (file : List ℕ) × (held (model_of words) ≡ Some file) × Judges (model_judged (take model_cap file))
+AcceptsModel words held =
+    (file : List ℕ) × (held (model_of words) ≡ Some file) × Judges (model_verdict (take model_cap file))
 
 -- a tape's name was given, and the cabinet's count under it rose
 abbrev pub TapeRose : Option (List ℕ) → (List ℕ → ℕ) → (List ℕ → ℕ) → Type 0
 TapeRose tape reads reads' = (name : List ℕ) × (tape ≡ Some name) × Rose (reads name) (reads' name)
 
--- a read failed: the cabinet's count rose under the model's name; or under the tape's, and there, where the cabinet tells, the model is accepted
-abbrev pub ReadRose : List (List ℕ) → Bool → (List ℕ → Option (List ℕ)) → (List ℕ → ℕ) → (List ℕ → ℕ) → Type 0
+-- a read failed: the cabinet's count rose under the model's name; or under the tape's, and there,
+-- where the cabinet tells, the model is accepted
+abbrev pub ReadRose :
+    List (List ℕ) → Bool → (List ℕ → Option (List ℕ)) → (List ℕ → ℕ) → (List ℕ → ℕ) → Type 0
 ReadRose words tells held reads reads' =
     Rose (reads (model_of words)) (reads' (model_of words)) ⊎ (TapeRose (tape_of words) reads reads' × (IsTrue tells → AcceptsModel words held))
 
--- the cause of each answer: the place that is bad; accepted words for all that comes after judging them; and for a fault a count that rose
+-- the cause of each answer: the place that is bad; accepted words for all that comes after judging
+-- them; and for a fault a count that rose
 module _ (words : List (List ℕ)) (tells : Bool) (held : List ℕ → Option (List ℕ)) where
   abbrev pub HasCause : Status → (List ℕ → ℕ) → (List ℕ → ℕ) → ℕ → ℕ → Type 0
   HasCause (status.BadWords at) reads reads' writes writes' = bad_place words ≡ Some at
-  HasCause status.ReadFault reads reads' writes writes' = (bad_place words ≡ None) × ReadRose words tells held reads reads'
+  HasCause status.ReadFault reads reads' writes writes' =
+      (bad_place words ≡ None) × ReadRose words tells held reads reads'
   HasCause status.WriteFault reads reads' writes writes' = Rose writes writes'
   HasCause answer reads reads' writes writes' = bad_place words ≡ None
 
@@ -73,16 +80,19 @@ HasTapeCause tape answer reads reads' writes writes' = Unit {0}
 
 -- ---- within the command, where no file is read any more
 
--- an outcome was written to the sink `old`, whole, or a front of it after a fault of the sink
+-- an outcome was written to the sink `old`, whole, or a prefix of it after a fault of the sink
 abbrev pub Ends : {K : Type 0} → (K → Option (List ℕ)) → (K → ℕ) → Outcome → K → Status → K → Type 0
 Ends holds faults outcome old status.ReadFault new = ⊥
 Ends holds faults outcome old status.Memory new = ⊥
-Ends holds faults outcome old status.WriteFault new = GrewPart (holds old) outcome.text (holds new) × Rose (faults old) (faults new)
+Ends holds faults outcome old status.WriteFault new =
+    GrewPart (holds old) outcome.text (holds new) × Rose (faults old) (faults new)
 Ends holds faults outcome old answer new = EndsWhole outcome (holds old) answer (holds new)
 
 -- the same, or memory was wanted and the sink is as it was
-abbrev pub EndsOrMemory : {K : Type 0} → (K → Option (List ℕ)) → (K → ℕ) → Outcome → K → Status → K → Type 0
-EndsOrMemory holds faults outcome old answer new = ((answer ≡ status.Memory) × (new ≡ old)) ⊎ Ends holds faults outcome old answer new
+abbrev pub EndsOrMemory :
+    {K : Type 0} → (K → Option (List ℕ)) → (K → ℕ) → Outcome → K → Status → K → Type 0
+EndsOrMemory holds faults outcome old answer new =
+    ((answer ≡ status.Memory) × (new ≡ old)) ⊎ Ends holds faults outcome old answer new
 
 -- the status, unless the writing failed
 abbrev pub unless_failed : {T E : Type 0} → Result T E → Status → Status

@@ -11,3 +11,4 @@ pub mod Step
 pub mod Timestep
 pub mod Trace
 pub mod Words
+pub mod Accepted

@@ -1,13 +1,13 @@
 -- The form of a model's document, table by table, and the model that it describes.
-use Rattle.std.specs.Prelude.{ℕ, pos, negsuc, ◌≡◌, ◌⊎◌, unsigned_abs, ◌&&◌, nat_le, nat_lt, if◌then◌else◌, List, [], ◌∷◌, length, codes, bytes_eq, Option, Some, None, option_map, ok_or, Result, Err}
+use Rattle.std.specs.Prelude.{ℕ, pos, negsuc, unsigned_abs, ◌&&◌, nat_le, nat_lt, if◌then◌else◌, List, [], ◌∷◌, length, codes, bytes_eq, Option, Some, None, option_map, ok_or, Result, Err}
 use Rattle.std.specs.Str.{is_utf8}
 use Rattle.toml.specs.Data.{Items, Members}
 use Rattle.toml.specs.Parse.{parse_document}
 use Rattle.fx_num.specs.declared.number.Number.{Number}
-use Rattle.mj_types.specs.declared.model.SlideModel.{SlideModel}
+use Rattle.mj_types.specs.declared.slide.SlideModel.{SlideModel}
 use Rattle.mj_types.specs.declared.status.ModelFault.{ModelFault}
 use Rattle.mj_types.specs.declared.status.ModelCode.{ModelCode}
-use Rattle.mj_types.specs.declared.status.ModelCode.TheVariants.{TooLarge, NotToml, NotBuilt, Memory}
+use Rattle.mj_types.specs.declared.status.ModelCode.TheVariants.{TooLarge, NotToml, NotBuilt}
 use Rattle.mj_top.specs.declared.model.Settings.{Settings}
 use Rattle.mj_top.specs.Document.{◌>>=◌, at_scale, only_keys, text_at, integer_at, items_at, table_at, only_table_at, third_of_three}
 use Rattle.mj_top.specs.Motors.{motors_at}
@@ -40,7 +40,8 @@ settings_of table = do
 
 -- the `option` table, which has no other key
 abbrev pub option_of : Members → Option Settings
-option_of table = if only_keys (codes "timestep" ∷ codes "gravity" ∷ []) table then settings_of table else None
+option_of table =
+    if only_keys (codes "timestep" ∷ codes "gravity" ∷ []) table then settings_of table else None
 
 -- the `inertial` table: the mass, from 1 to 128
 abbrev pub inertial_of : Members → Option ℕ
@@ -69,7 +70,8 @@ named_mass table = do
 
 -- a body's table, but for its joint: the mass
 abbrev pub body_of : Members → Option ℕ
-body_of table = if only_keys (codes "name" ∷ codes "inertial" ∷ codes "joint" ∷ []) table then named_mass table else None
+body_of table =
+    if only_keys (codes "name" ∷ codes "inertial" ∷ codes "joint" ∷ []) table then named_mass table else None
 
 -- the joint of a body's table: the joint's name
 abbrev pub joint_in : Members → Option (List ℕ)
@@ -101,20 +103,16 @@ abbrev pub built : Members → Result SlideModel ModelFault
 built table = ok_or (slide_model table) (refusal NotBuilt)
 
 -- the same, or the refusal of what is no document
-abbrev pub judged : Option Members → Result SlideModel ModelFault
-judged None = Err (refusal NotToml)
-judged (Some table) = built table
+abbrev pub document_verdict : Option Members → Result SlideModel ModelFault
+document_verdict None = Err (refusal NotToml)
+document_verdict (Some table) = built table
 
 -- the document that bytes are: UTF-8 text, as the grammar of TOML reads it
 abbrev pub document : List ℕ → Option Members
 document bytes = if is_utf8 bytes then parse_document bytes else None
 
 -- the model that bytes are read as, or the first fault: too many bytes, no document, another form
-abbrev pub model_judged : List ℕ → Result SlideModel ModelFault
-model_judged bytes =
+abbrev pub model_verdict : List ℕ → Result SlideModel ModelFault
+model_verdict bytes =
     if nat_lt 1048576 (length bytes) then Err (refusal TooLarge)
-    else judged (document bytes)
-
--- memory was wanted and not found, or the answer
-abbrev pub OrMemory : Result SlideModel ModelFault → Result SlideModel ModelFault → Type 0
-OrMemory result answer = (result ≡ Err (refusal Memory)) ⊎ (result ≡ answer)
+    else document_verdict (document bytes)

@@ -16,16 +16,19 @@ path_text (byte ∷ path) = codes " " ++ (byte ∷ path)
 
 -- a model refused with a code, at a path
 abbrev pub model_refusal : ModelFault → List ℕ
-model_refusal fault = ((codes "refused model " ++ model_code_name fault.code) ++ path_text fault.path) ++ codes "\n"
+model_refusal fault =
+    ((codes "refused model " ++ model_code_name fault.code) ++ path_text fault.path) ++ codes "\n"
 
 -- why a tape is refused
 abbrev pub tape_fault_text : TapeFault → List ℕ
 tape_fault_text fault_of.TooLarge = codes "TooLarge"
 tape_fault_text (fault_of.Width row) = codes "Width " ++ decimal row
-tape_fault_text (fault_of.BadNumber row column) = ((codes "BadNumber " ++ decimal row) ++ codes " ") ++ decimal column
+tape_fault_text (fault_of.BadNumber row column) =
+    ((codes "BadNumber " ++ decimal row) ++ codes " ") ++ decimal column
 tape_fault_text (fault_of.Short rows) = codes "Short " ++ decimal rows
 tape_fault_text fault_of.Memory = codes "Memory"
 
 -- a tape refused, which counts from 1
 abbrev pub tape_refusal : ℕ → TapeFault → List ℕ
-tape_refusal tape fault = (((codes "refused tape " ++ decimal tape) ++ codes " ") ++ tape_fault_text fault) ++ codes "\n"
+tape_refusal tape fault =
+    (((codes "refused tape " ++ decimal tape) ++ codes " ") ++ tape_fault_text fault) ++ codes "\n"

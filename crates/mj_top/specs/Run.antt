@@ -2,7 +2,7 @@
 use Rattle.std.specs.Prelude.{ℕ, zero, suc, ◌+◌, ℤ, List, [], ◌∷◌, ◌++◌, Option, option_map}
 use Rattle.std.specs.Option.{unwrap_or}
 use Rattle.fx_whole.specs.First.{first_to}
-use Rattle.mj_types.specs.declared.model.SlideModel.{SlideModel}
+use Rattle.mj_types.specs.declared.slide.SlideModel.{SlideModel}
 use Rattle.mj_types.specs.declared.range.OutOfRange.{OutOfRange}
 use Rattle.mj_types.specs.declared.range.End.{End}
 use Rattle.mj_types.specs.declared.range.End.TheVariants as finish
@@ -46,7 +46,8 @@ module _ (model : SlideModel) (controls : ℕ → ℕ → ℤ) where
 
   -- the end of n steps: the first refusal, or done
   abbrev pub end_of : ℕ → End
-  end_of n = unwrap_or (first_to n (λ k. option_map (λ out. finish.OutOfRange (k + 1) out.kind out.index) (refusal_at k))) finish.Done
+  end_of n =
+      unwrap_or (first_to n (λ k. option_map (λ out. finish.OutOfRange (k + 1) out.kind out.index) (refusal_at k))) finish.Done
 
   -- the run of n steps
   abbrev pub run : ℕ → Run

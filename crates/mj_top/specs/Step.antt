@@ -1,13 +1,16 @@
--- One step of a body that slides along z, in fixed point: motors and gravity accelerate it, and semi-implicit Euler moves it (MuJoCo documentation, Computation chapter). Positions, velocities, accelerations, forces and the time step are whole numbers at 2^-32, rounded where the formula says so.
+-- One step of a body that slides along z, in fixed point: motors and gravity accelerate it, and
+-- semi-implicit Euler moves it (MuJoCo documentation, Computation chapter). Positions, velocities,
+-- accelerations, forces and the time step are whole numbers at 2^-32, rounded where the formula
+-- says so.
 use Rattle.std.specs.Prelude.{ℕ, ◌*◌, ◌^◌, ℤ, pos, ◌+ℤ◌, ◌-ℤ◌, ◌*ℤ◌, unsigned_abs, nat_le, cond, List, length, slice_index_or, Option, Some, None}
 use Rattle.std.specs.Int.{int_max, int_min}
 use Rattle.fx_num.specs.declared.number.Number.{Number}
 use Rattle.fx_whole.specs.Nearest.{nearest}
 use Rattle.fx_whole.specs.First.{or_first}
 use Rattle.fx_whole.specs.Sums.{sum_to}
-use Rattle.mj_types.specs.declared.model.SlideModel.{SlideModel}
+use Rattle.mj_types.specs.declared.slide.SlideModel.{SlideModel}
 use Rattle.mj_types.specs.declared.tape.SlideMotor.{SlideMotor}
-use Rattle.mj_types.specs.declared.tape.ControlRange.{ControlRange}
+use Rattle.mj_types.specs.declared.parts.Range.{Range}
 use Rattle.mj_types.specs.declared.range.OutOfRange.{OutOfRange}
 use Rattle.mj_top.specs.declared.step.State.{State}
 use Rattle.mj_top.specs.declared.step.Motion.{Motion}
@@ -23,15 +26,15 @@ abbrev pub start : State
 start = record { q = plain (pos 0); v = plain (pos 0) }
 
 -- the product of two numbers at 2^-32, rounded once
-unfoldable pub scaled : ℤ → ℤ → ℤ
-scaled a b = nearest (a *ℤ b) (pos (2 ^ 32))
+unfoldable pub round_product : ℤ → ℤ → ℤ
+round_product a b = nearest (a *ℤ b) (pos (2 ^ 32))
 
 -- motor j; one that does nothing past the last
 abbrev pub motor : List SlideMotor → ℕ → SlideMotor
 motor motors j = slice_index_or motors j (record { gear = plain (pos 0); ctrlrange = None })
 
 -- a control, cut to the motor's range where it has one
-abbrev pub clamped : Option ControlRange → ℤ → ℤ
+abbrev pub clamped : Option Range → ℤ → ℤ
 clamped None control = control
 clamped (Some range) control = int_max range.least.mid (int_min control range.greatest.mid)
 
@@ -41,7 +44,8 @@ drive motor control = motor.gear.mid *ℤ clamped motor.ctrlrange control
 
 -- the applied force: the sum over the motors, rounded once
 abbrev pub applied : SlideModel → (ℕ → ℤ) → ℤ
-applied model controls = nearest (sum_to (length model.motors) (λ j. drive (motor model.motors j) (controls j))) (pos (2 ^ 32))
+applied model controls =
+    nearest (sum_to (length model.motors) (λ j. drive (motor model.motors j) (controls j))) (pos (2 ^ 32))
 
 module _ (model : SlideModel) (force : ℤ) where
   -- the load: the applied force and the weight
@@ -59,15 +63,16 @@ module _ (model : SlideModel) (force : ℤ) where
 module _ (model : SlideModel) (force : ℤ) (state : State) where
   -- v' = v + h a
   abbrev pub velocity_after : ℤ
-  velocity_after = state.v.mid +ℤ scaled model.h.mid (accel model force)
+  velocity_after = state.v.mid +ℤ round_product model.h.mid (accel model force)
 
   -- q' = q + h v'
   abbrev pub position_after : ℤ
-  position_after = state.q.mid +ℤ scaled model.h.mid velocity_after
+  position_after = state.q.mid +ℤ round_product model.h.mid velocity_after
 
   -- the state after the step, the acceleration and the residual
   abbrev pub made : Motion
-  made = record { after = record { q = plain position_after; v = plain velocity_after }; accel = plain (accel model force); residual = residual model force }
+  made =
+      record { after = record { q = plain position_after; v = plain velocity_after }; accel = plain (accel model force); residual = residual model force }
 
 -- the greatest size of an applied force, and of a velocity and of a slide's position
 abbrev pub force_limit : ℕ
@@ -78,7 +83,8 @@ motion_limit = 2 ^ 44
 
 -- the number leaves its range: it passes `limit` in size
 abbrev pub check : Quantity → ℕ → ℕ → ℤ → Option OutOfRange
-check kind index limit number = cond (nat_le (unsigned_abs number) limit) None (Some (record { kind = kind; index = index }))
+check kind index limit number =
+    cond (nat_le (unsigned_abs number) limit) None (Some (record { kind = kind; index = index }))
 
 -- the first number of the step that leaves its range
 abbrev pub first_out : SlideModel → ℤ → State → Option OutOfRange

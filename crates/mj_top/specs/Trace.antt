@@ -1,4 +1,5 @@
--- The text of a run. Lines end with a line feed, numbers are raw decimals. A format of this project's own.
+-- The text of a run. Lines end with a line feed, numbers are raw decimals. A format of this
+-- project's own.
 use Rattle.std.specs.Prelude.{ℕ, List, ◌++◌, codes, decimal}
 use Rattle.std.specs.Fmt.{signed_decimal}
 use Rattle.std.specs.List.{flat_map}

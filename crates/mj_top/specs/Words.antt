@@ -1,4 +1,6 @@
--- The words after the program's name: a command, then pairs of a name and a value in any order. Which words are accepted, and else the first bad place, counted from 1. A format of this project's own.
+-- The words after the program's name: a command, then pairs of a name and a value in any order.
+-- Which words are accepted, and else the first bad place, counted from 1. A format of this
+-- project's own.
 use Rattle.std.specs.Prelude.{ℕ, zero, suc, ◌+◌, ◌-◌, ◌*◌, ◌/◌, Bool, false, ◌&&◌, ◌||◌, not, ◌==◌, nat_le, cond, List, [], ◌∷◌, length, slice_index_or, fold, Option, Some, None, is_some, unwrap_or, option_and_then, codes}
 use Rattle.std.specs.List.{list_all}
 use Rattle.std.specs.Str.{bytes_eq}
@@ -54,7 +56,8 @@ digits_value digits = fold (λ n digit. 10 * n + (digit - 48)) 0 digits
 
 -- the number up to `most` that a word writes
 abbrev pub number_up_to : ℕ → List ℕ → Option ℕ
-number_up_to most text = cond (is_number text && nat_le (digits_value text) most) (Some (digits_value text)) None
+number_up_to most text =
+    cond (is_number text && nat_le (digits_value text) most) (Some (digits_value text)) None
 
 -- ---- the command `run`
 
@@ -81,11 +84,13 @@ steps_of text = number_up_to 1000000 text
 
 -- the value fits the name
 abbrev pub fits : List ℕ → List ℕ → Bool
-fits text written = cond (bytes_eq text steps_name) (is_some (steps_of written)) (is_file_name written)
+fits text written =
+    cond (bytes_eq text steps_name) (is_some (steps_of written)) (is_file_name written)
 
 -- the value that is given under a name
 abbrev pub given : List (List ℕ) → List ℕ → Option (List ℕ)
-given words text = first_to (value_count words) (λ j. cond (bytes_eq (name words j) text) (Some (value words j)) None)
+given words text =
+    first_to (value_count words) (λ j. cond (bytes_eq (name words j) text) (Some (value words j)) None)
 
 -- ---- the first bad place, in the order of judging
 
@@ -124,11 +129,13 @@ bad_values words = first_to (value_count words) (bad_value words)
 
 -- a required name is missing
 abbrev pub name_missing : List (List ℕ) → Option ℕ
-name_missing words = unless (is_some (given words model_name) && is_some (given words steps_name)) (past_end words)
+name_missing words =
+    unless (is_some (given words model_name) && is_some (given words steps_name)) (past_end words)
 
 -- none where the words are accepted
 abbrev pub bad_place : List (List ℕ) → Option ℕ
-bad_place words = or_first (bad_command words) (or_first (bad_names words) (or_first (value_missing words) (or_first (bad_values words) (name_missing words))))
+bad_place words =
+    or_first (bad_command words) (or_first (bad_names words) (or_first (value_missing words) (or_first (bad_values words) (name_missing words))))
 
 -- what accepted words ask for
 abbrev pub model_of : List (List ℕ) → List ℕ

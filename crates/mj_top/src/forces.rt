@@ -1,18 +1,18 @@
 // The forces on a sliding body: motors with their controls, and gravity.
 ghost use Rattle.std.specs.Prelude.{◌≡◌, ◌+◌, ◌*◌, ◌<◌, ◌≤◌, ◌^◌, ◌+ℤ◌, ◌-ℤ◌, ◌*ℤ◌, ℕ, pos, length, unsigned_abs};
-ghost use Rattle.fx_whole.specs.Nearest.{nearest as nearest_lem, IsNearest};
+ghost use Rattle.fx_whole.specs.Nearest as rounding;
 ghost use Rattle.fx_whole.specs.Sums.{sum_to};
-ghost use Rattle.mj_top.specs.Controls.{control, values_of, Holds, Serves};
+ghost use Rattle.mj_top.specs.Controls.{tape_control, tape_values, Holds, Serves};
 ghost use Rattle.mj_top.specs.Lawful.{IsLawful};
-ghost use Rattle.mj_top.specs.Step.{clamped as clamped_lem, drive as drive_lem, motor, applied, force_limit};
+ghost use Rattle.mj_top.specs.Step as spec;
 
 use fx_num::Fix;
 use fx_whole::{difference, narrow, nearest, nearest_shift, product, size, sum, wide_scaled};
-use mj_types::{ControlRange, SlideModel, SlideMotor, Tape};
+use mj_types::{Range, SlideModel, SlideMotor, Tape};
 
 // A control, cut to a motor's range where it has one.
-fn clamped(range: &Option<ControlRange>, control: &Fix<32>) -> Fix<32>
-    ensures { result.mid ≡ clamped_lem range.now control.now.mid }
+fn clamped(range: &Option<Range>, control: &Fix<32>) -> Fix<32>
+    ensures { result.mid ≡ spec.clamped range.now control.now.mid }
 {
     match range {
         None => *control,
@@ -24,7 +24,7 @@ fn clamped(range: &Option<ControlRange>, control: &Fix<32>) -> Fix<32>
 #[tactic(auto, unfolding(crate::specs::Step::drive))]
 fn drive(motor: &SlideMotor, control: &Fix<32>) -> i128
     requires { unsigned_abs motor.now.gear.mid ≤ 1024 * 2 ^ 32 }
-    ensures value { result ≡ drive_lem motor.now control.now.mid }
+    ensures value { result ≡ spec.drive motor.now control.now.mid }
     ensures size { unsigned_abs result ≤ 2 ^ 105 }
 {
     product(motor.gear.mid, clamped(&motor.ctrlrange, control).mid)
@@ -33,7 +33,7 @@ fn drive(motor: &SlideMotor, control: &Fix<32>) -> i128
 // The control of motor `j` in step `k`, both from 0: that of the tape, or 0.
 fn control_at(tape: &Option<Tape>, k: usize, j: usize) -> Fix<32>
     requires { Holds tape.now k j }
-    ensures { result.mid ≡ control (values_of tape.now) k j }
+    ensures { result.mid ≡ tape_control (tape_values tape.now) k j }
 {
     match tape {
         None => Fix::from_raw(0),
@@ -45,7 +45,7 @@ fn control_at(tape: &Option<Tape>, k: usize, j: usize) -> Fix<32>
 fn driven(total: &i128, motor: &SlideMotor, control: &Fix<32>) -> i128
     requires total { unsigned_abs total.now ≤ 2 ^ 112 }
     requires gear { unsigned_abs motor.now.gear.mid ≤ 1024 * 2 ^ 32 }
-    ensures value { result ≡ total.now +ℤ drive_lem motor.now control.now.mid }
+    ensures value { result ≡ total.now +ℤ spec.drive motor.now control.now.mid }
     ensures size { unsigned_abs result ≤ unsigned_abs total.now + 2 ^ 105 }
 {
     sum(*total, drive(motor, control))
@@ -54,9 +54,10 @@ fn driven(total: &i128, motor: &SlideMotor, control: &Fix<32>) -> i128
 // The sum of the motors' forces in step `k`, at 2^-64.
 fn drive_sum(motors: &[SlideMotor], tape: &Option<Tape>, k: usize) -> i128
     requires few { length motors.now ≤ 64 }
-    requires gears { (j : ℕ) → unsigned_abs (motor motors.now j).gear.mid ≤ 1024 * 2 ^ 32 }
+    requires gears { (j : ℕ) → unsigned_abs (spec.motor motors.now j).gear.mid ≤ 1024 * 2 ^ 32 }
     requires holds { (j : ℕ) → j < length motors.now → Holds tape.now k j }
-    ensures { result ≡ sum_to (length motors.now) (λ j. drive_lem (motor motors.now j) (control (values_of tape.now) k j)) }
+    ensures { result ≡ sum_to (length motors.now)
+        (λ j. spec.drive (spec.motor motors.now j) (tape_control (tape_values tape.now) k j)) }
 {
     let mut total = 0;
     for j in 0..motors.len() {
@@ -70,7 +71,10 @@ fn drive_sum(motors: &[SlideMotor], tape: &Option<Tape>, k: usize) -> i128
 pub fn applied_force(model: &SlideModel, tape: &Option<Tape>, k: usize) -> i128
     requires lawful { IsLawful model.now }
     requires holds { (j : ℕ) → j < length model.now.motors → Holds tape.now k j }
-    ensures { result ≡ nearest_lem (sum_to (length model.now.motors) (λ j. drive_lem (motor model.now.motors j) (control (values_of tape.now) k j))) (pos (2 ^ 32)) }
+    ensures { result ≡ rounding.nearest
+        (sum_to (length model.now.motors)
+        (λ j. spec.drive (spec.motor model.now.motors j) (tape_control (tape_values tape.now) k j)))
+        (pos (2 ^ 32)) }
 {
     nearest_shift(drive_sum(model.motors.as_slice(), tape, k), 32)
 }
@@ -78,7 +82,7 @@ pub fn applied_force(model: &SlideModel, tape: &Option<Tape>, k: usize) -> i128
 /// The load: the applied force and the weight. It is at most 2^53 for each unit of mass.
 pub fn load_of(model: &SlideModel, force: &i128) -> i128
     requires lawful { IsLawful model.now }
-    requires small { unsigned_abs force.now ≤ force_limit }
+    requires small { unsigned_abs force.now ≤ spec.force_limit }
     ensures value { result ≡ force.now +ℤ pos model.now.mass *ℤ model.now.gravity.mid }
     ensures size { unsigned_abs result ≤ 2 ^ 53 * model.now.mass }
 {
@@ -89,7 +93,7 @@ pub fn load_of(model: &SlideModel, force: &i128) -> i128
 pub fn acceleration(mass: &u32, load: &i128) -> Fix<32>
     requires some { 1 ≤ mass.now }
     requires small { unsigned_abs load.now ≤ 2 ^ 53 * mass.now }
-    ensures value { result.mid ≡ nearest_lem load.now (pos mass.now) }
+    ensures value { result.mid ≡ rounding.nearest load.now (pos mass.now) }
     ensures close { 2 * unsigned_abs (load.now -ℤ result.mid *ℤ pos mass.now) ≤ mass.now }
     ensures size { unsigned_abs result.mid ≤ 2 ^ 53 }
 {

@@ -13,3 +13,4 @@ mod trace;
 mod words;
 
 pub use top::run_words;
+pub use words::accepted_words_have_no_bad_place;

@@ -2,6 +2,7 @@
 ghost use Rattle.std.specs.Prelude.{◌≡◌, ◌⊎◌, IfOk, option_map};
 ghost use Rattle.toml.specs.View.{array_view, table_view};
 ghost use Rattle.toml.specs.Errors.{IsMemory};
+ghost use Rattle.mj_io.specs.Memory.{OrMemory};
 ghost use Rattle.mj_top.specs.Lawful.{IsLawful};
 ghost use Rattle.mj_top.specs.Model as spec;
 ghost use Rattle.mj_top.specs.Motors.{BuiltOrMemory};
@@ -38,7 +39,8 @@ struct Settings {
 /// file has more than 1,048,576 bytes, `NotToml` where it is no document, `NotBuilt` where the
 /// document has another form, each with an empty path; or `Memory`.
 pub(crate) fn read_model(alloc: Global, bytes: &[u8]) -> Result<SlideModel, ModelFault>
-    ensures judged { spec.OrMemory result (spec.model_judged bytes.now) }
+    ensures judged { OrMemory (spec.refusal ModelCode.Memory) result
+        (spec.model_verdict bytes.now) }
     ensures lawful { IfOk result IsLawful }
 {
     if bytes.len() > MOST_BYTES {
@@ -50,10 +52,10 @@ pub(crate) fn read_model(alloc: Global, bytes: &[u8]) -> Result<SlideModel, Mode
     }
 }
 
-/// Why bytes gave no document.
+/// Why bytes gave no document: `Memory` where that is the parser's error, and `NotToml` otherwise.
 fn unread(error: toml::de::Error) -> ModelCode
-    ensures memory { IsMemory error → result ≡ ModelCode.Memory }
-    ensures either { (result ≡ ModelCode.Memory) ⊎ ((¬ IsMemory error) × (result ≡ ModelCode.NotToml)) }
+    ensures { (IsMemory error × (result ≡ ModelCode.Memory))
+        ⊎ ((¬ IsMemory error) × (result ≡ ModelCode.NotToml)) }
 {
     if error.is_memory() {
         ModelCode::Memory
@@ -74,7 +76,8 @@ fn refusal(alloc: Global, code: ModelCode) -> ModelFault
 
 /// The model that a document describes, or the refusal of its form.
 fn built(alloc: Global, document: &Table) -> Result<SlideModel, ModelFault>
-    ensures judged { spec.OrMemory result (spec.built (table_view document.now)) }
+    ensures judged { OrMemory (spec.refusal ModelCode.Memory) result
+        (spec.built (table_view document.now)) }
     ensures lawful { IfOk result IsLawful }
 {
     match slide_model(alloc, document) {
@@ -133,10 +136,7 @@ fn gravity_of(items: &Array) -> Option<Fix<32>>
         least: -1024,
         most: 1024,
     };
-    match third_of_three(items, bounds) {
-        Some(number) => Some(at_scale(number)),
-        None => None,
-    }
+    Some(at_scale(third_of_three(items, bounds)?))
 }
 
 /// A body's mass, if the table has the form of a body, whatever its joint.
@@ -154,10 +154,7 @@ fn body_of(table: &Table) -> Option<u32>
 fn joint_in(body: &Table) -> Option<&str>
     ensures { option_map (λ s. s.now) result ≡ spec.joint_in (table_view body.now) }
 {
-    match only_table_at(body, "joint") {
-        Some(joint) => joint_of(joint),
-        None => None,
-    }
+    joint_of(only_table_at(body, "joint")?)
 }
 
 /// The mass that an `inertial` table sets: a whole number from 1 to 128.
@@ -171,10 +168,7 @@ fn inertial_of(table: &Table) -> Option<u32>
         least: 1,
         most: 128,
     };
-    match integer_at(table, "mass", bounds) {
-        Some(mass) => Some(mass.unsigned_abs() as u32),
-        None => None,
-    }
+    Some(integer_at(table, "mass", bounds)?.unsigned_abs() as u32)
 }
 
 /// A joint's name, if the table has the form of a slide joint.

@@ -37,7 +37,8 @@ pub fn send_model_refusal<S: Sink>(sink: &mut S, page: &mut Page, fault: &ModelF
 
 // A bad number's record and column.
 fn send_bad_number<S: Sink>(sink: &mut S, page: &mut Page, row: usize, column: usize)
-    ensures { Sent S.holds S.faults sink.old page.old (tape_fault_text (TapeFault.BadNumber row column)) sink.new page.new }
+    ensures { Sent S.holds S.faults sink.old page.old
+        (tape_fault_text (TapeFault.BadNumber row column)) sink.new page.new }
 {
     send(sink, page, b"BadNumber ");
     send_size(sink, page, row);
@@ -47,7 +48,8 @@ fn send_bad_number<S: Sink>(sink: &mut S, page: &mut Page, row: usize, column: u
 
 // A word and a number.
 fn send_counted<S: Sink>(sink: &mut S, page: &mut Page, word: &[u8], number: usize)
-    ensures { Sent S.holds S.faults sink.old page.old (word.now ++ decimal number) sink.new page.new }
+    ensures { Sent S.holds S.faults sink.old page.old
+        (word.now ++ decimal number) sink.new page.new }
 {
     send(sink, page, word);
     send_size(sink, page, number);

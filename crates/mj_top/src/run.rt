@@ -1,7 +1,7 @@
 // A run: the steps one after another, each told as it is done.
 ghost use Rattle.std.specs.Prelude.{◌≡◌, ◌+◌, ◌-◌, ◌<◌, ◌^◌, false, length, MatchResult};
 ghost use Rattle.mj_io.specs.Sent.{Sent};
-ghost use Rattle.mj_top.specs.Controls.{control, values_of, Serves};
+ghost use Rattle.mj_top.specs.Controls.{tape_control, tape_values, Serves};
 ghost use Rattle.mj_top.specs.Lawful.{IsLawful};
 ghost use Rattle.mj_top.specs.Run.{run, end_of};
 ghost use Rattle.mj_top.specs.Trace.{blocks_text, trace_text};
@@ -44,8 +44,12 @@ fn send_steps<S: Sink>(
 ) -> Result<End, Failed>
     requires lawful { IsLawful model.now }
     requires serves { Serves tape.now (length model.now.motors) steps }
-    ensures sent { Sent S.holds S.faults sink.old page.old (blocks_text (run model.now (control (values_of tape.now)) steps).blocks) sink.new page.new }
-    ensures end { MatchResult result (λ end. end ≡ end_of model.now (control (values_of tape.now)) steps) (λ _. page.new.going ≡ false) }
+    ensures sent { Sent S.holds S.faults sink.old page.old
+        (blocks_text (run model.now
+        (tape_control (tape_values tape.now)) steps).blocks) sink.new page.new }
+    ensures end { MatchResult result
+        (λ end. end ≡ end_of model.now (tape_control (tape_values tape.now)) steps)
+        (λ _. page.new.going ≡ false) }
 {
     let mut state = start();
     for done in 0..steps {
@@ -64,7 +68,7 @@ fn send_steps<S: Sink>(
 
 /// Runs the model for this many steps and sends the trace: the header, a block for each step that is
 /// done, and the end, which is the answer. `Failed` where the writing stopped; what was sent is a
-/// front of the trace.
+/// prefix of the trace.
 pub fn send_run<S: Sink>(
     sink: &mut S,
     page: &mut Page,
@@ -74,15 +78,15 @@ pub fn send_run<S: Sink>(
 ) -> Result<End, Failed>
     requires lawful { IsLawful model.now }
     requires serves { Serves tape.now (length model.now.motors) steps }
-    ensures sent { Sent S.holds S.faults sink.old page.old (trace_text steps (run model.now (control (values_of tape.now)) steps)) sink.new page.new }
-    ensures end { MatchResult result (λ end. end ≡ end_of model.now (control (values_of tape.now)) steps) (λ _. page.new.going ≡ false) }
+    ensures sent { Sent S.holds S.faults sink.old page.old
+        (trace_text steps
+        (run model.now (tape_control (tape_values tape.now)) steps)) sink.new page.new }
+    ensures end { MatchResult result
+        (λ end. end ≡ end_of model.now (tape_control (tape_values tape.now)) steps)
+        (λ _. page.new.going ≡ false) }
 {
     send_header(sink, page, steps);
-    match send_steps(sink, page, model, tape, steps) {
-        Ok(end) => {
-            send_end(sink, page, &end);
-            Ok(end)
-        }
-        Err(Failed) => Err(Failed),
-    }
+    let end = send_steps(sink, page, model, tape, steps)?;
+    send_end(sink, page, &end);
+    Ok(end)
 }

@@ -1,8 +1,8 @@
 // One step of a body that slides.
 ghost use Rattle.std.specs.Prelude.{◌≡◌, ◌<◌, ◌≤◌, ◌^◌, ◌+ℤ◌, ℕ, Some, None, length, unsigned_abs, MatchOption, MatchResult};
-ghost use Rattle.mj_top.specs.Controls.{control, values_of, Holds};
+ghost use Rattle.mj_top.specs.Controls.{tape_control, tape_values, Holds};
 ghost use Rattle.mj_top.specs.Lawful.{IsLawful};
-ghost use Rattle.mj_top.specs.Step.{scaled as scaled_lem, applied, made as made_lem, first_out, force_limit, motion_limit, start as start_lem};
+ghost use Rattle.mj_top.specs.Step as spec;
 
 use crate::forces::{acceleration, applied_force, load_of, residual};
 use fx_num::Fix;
@@ -32,19 +32,19 @@ const MOTION_LIMIT: i64 = 1 << 44;
 const FORCE_LIMIT: i64 = 1 << 52;
 
 // The product of two numbers at 2^-32, rounded once.
-#[tactic(auto, unfolding(crate::specs::Step::scaled))]
-fn scaled(a: &Fix<32>, b: &Fix<32>) -> i128
-    ensures value { result ≡ scaled_lem a.now.mid b.now.mid }
+#[tactic(auto, unfolding(crate::specs::Step::round_product))]
+fn round_product(a: &Fix<32>, b: &Fix<32>) -> i128
+    ensures value { result ≡ spec.round_product a.now.mid b.now.mid }
     ensures bound { unsigned_abs result ≤ 2 ^ 126 }
 {
     nearest_shift(product(a.mid, b.mid), 32)
 }
 
 // The number, where it doesn't pass the limit in size.
-fn within_limit(n: &i128) -> Option<Fix<32>>
+fn limit_motion(n: &i128) -> Option<Fix<32>>
     ensures { MatchOption result
-        (motion_limit < unsigned_abs n.now)
-        (λ m. (m.mid ≡ n.now) × (unsigned_abs m.mid ≤ motion_limit)) }
+        (spec.motion_limit < unsigned_abs n.now)
+        (λ m. (m.mid ≡ n.now) × (unsigned_abs m.mid ≤ spec.motion_limit)) }
 {
     if is_within(*n, MOTION_LIMIT) {
         Some(Fix::from_raw(narrow(*n)))
@@ -64,17 +64,19 @@ fn grown(from: &Fix<32>, growth: &i128) -> i128
 // What `from` has grown to after a time `h` at this rate; none where that passes the limit.
 fn advanced(from: &Fix<32>, h: &Fix<32>, rate: &Fix<32>) -> Option<Fix<32>>
     ensures { MatchOption result
-        (motion_limit < unsigned_abs (from.now.mid +ℤ scaled_lem h.now.mid rate.now.mid))
-        (λ n. (n.mid ≡ from.now.mid +ℤ scaled_lem h.now.mid rate.now.mid) × (unsigned_abs n.mid ≤ motion_limit)) }
+        (spec.motion_limit
+        < unsigned_abs (from.now.mid +ℤ spec.round_product h.now.mid rate.now.mid))
+        (λ n. (n.mid ≡ from.now.mid +ℤ spec.round_product h.now.mid rate.now.mid)
+        × (unsigned_abs n.mid ≤ spec.motion_limit)) }
 {
-    let growth = scaled(h, rate);
+    let growth = round_product(h, rate);
     let after = grown(from, &growth);
-    within_limit(&after)
+    limit_motion(&after)
 }
 
 /// The state at the start: at rest, at 0.
 pub fn start() -> State
-    ensures { result ≡ start_lem }
+    ensures { result ≡ spec.start }
 {
     State {
         q: Fix::from_raw(0),
@@ -94,8 +96,10 @@ fn force_within(model: &SlideModel, tape: &Option<Tape>, k: usize) -> Option<i12
     requires lawful { IsLawful model.now }
     requires holds { (j : ℕ) → j < length model.now.motors → Holds tape.now k j }
     ensures { MatchOption result
-        (force_limit < unsigned_abs (applied model.now (control (values_of tape.now) k)))
-        (λ force. (force ≡ applied model.now (control (values_of tape.now) k)) × (unsigned_abs force ≤ force_limit)) }
+        (spec.force_limit
+        < unsigned_abs (spec.applied model.now (tape_control (tape_values tape.now) k)))
+        (λ force. (force ≡ spec.applied model.now (tape_control (tape_values tape.now) k))
+        × (unsigned_abs force ≤ spec.force_limit)) }
 {
     let force = applied_force(model, tape, k);
     if is_within(force, FORCE_LIMIT) {
@@ -106,12 +110,13 @@ fn force_within(model: &SlideModel, tape: &Option<Tape>, k: usize) -> Option<i12
 }
 
 // A step under an applied force within its limit.
-fn advance(model: &SlideModel, force: &i128, state: &State) -> Result<Motion, OutOfRange>
+fn move_body(model: &SlideModel, force: &i128, state: &State) -> Result<Motion, OutOfRange>
     requires lawful { IsLawful model.now }
-    requires small { unsigned_abs force.now ≤ force_limit }
+    requires small { unsigned_abs force.now ≤ spec.force_limit }
     ensures { MatchResult result
-        (λ made. (first_out model.now force.now state.now ≡ None) × (made ≡ made_lem model.now force.now state.now))
-        (λ out. first_out model.now force.now state.now ≡ Some out) }
+        (λ made. (spec.first_out model.now force.now state.now ≡ None)
+        × (made ≡ spec.made model.now force.now state.now))
+        (λ out. spec.first_out model.now force.now state.now ≡ Some out) }
 {
     let load = load_of(model, force);
     let accel = acceleration(&model.mass, &load);
@@ -140,12 +145,16 @@ pub fn step(
     requires lawful { IsLawful model.now }
     requires holds { (j : ℕ) → j < length model.now.motors → Holds tape.now k j }
     ensures { MatchResult result
-        (λ made. (first_out model.now (applied model.now (control (values_of tape.now) k)) state.now ≡ None)
-        × (made ≡ made_lem model.now (applied model.now (control (values_of tape.now) k)) state.now))
-        (λ out. first_out model.now (applied model.now (control (values_of tape.now) k)) state.now ≡ Some out) }
+        (λ made. (spec.first_out model.now
+        (spec.applied model.now (tape_control (tape_values tape.now) k)) state.now ≡ None)
+        × (made ≡ spec.made model.now
+        (spec.applied model.now (tape_control (tape_values tape.now) k)) state.now))
+        (λ out. spec.first_out model.now
+        (spec.applied model.now (tape_control (tape_values tape.now) k)) state.now
+        ≡ Some out) }
 {
     match force_within(model, tape, k) {
-        Some(force) => advance(model, &force, state),
+        Some(force) => move_body(model, &force, state),
         None => Err(out_of(Quantity::Applied)),
     }
 }

@@ -236,7 +236,7 @@ fn the_seventh_write_of_one_byte_fails(rt: HostRuntime) -> Result<(), Fail> {
 }
 
 #[test]
-fn a_write_that_fails_leaves_a_front(rt: HostRuntime) -> Result<(), Fail> {
+fn a_write_that_fails_leaves_a_prefix(rt: HostRuntime) -> Result<(), Fail> {
     let alloc = rt.alloc();
     let words = words_of(alloc, &RUN_3)?;
     for k in 1..TRACE.len() + 1 {
@@ -246,9 +246,39 @@ fn a_write_that_fails_leaves_a_front(rt: HostRuntime) -> Result<(), Fail> {
         assert_eq!(rt; status.code(), 7);
         assert_eq!(rt;
             sink.held(),
-            TRACE.as_bytes().get(..k - 1).ok_or("a front")?
+            TRACE.as_bytes().get(..k - 1).ok_or("a prefix")?
         );
         assert_eq!(rt; sink.faults(), 1);
     }
     Ok(())
+}
+
+// The writes of a run of three steps, where the system takes each piece whole: the header, a block for
+// each step, and the end. So the fifth is the last.
+#[test]
+fn a_run_takes_one_write_a_step(rt: HostRuntime) -> Result<(), Fail> {
+    let alloc = rt.alloc();
+    let words = words_of(alloc, &RUN_3)?;
+    for (fail, code, last) in [
+        (1u64, 7, b"".as_slice()),
+        (2, 7, b"steps=3\n"),
+        (3, 7, b"step 1\nq -2147483648\n"),
+        (4, 7, b"step 2\nq -6442450944\n"),
+        (5, 7, b"step 3\nq -12884901888\n"),
+        (6, 0, b"cost 0 0\nend done\n"),
+    ] {
+        let mut cabinet = cabinet_of(alloc, SLIDE.as_bytes(), b"", &[])?;
+        let mut sink = sink_of(alloc, &[fail], 1_000_000)?;
+        let status = run_words(&rt, alloc, words.as_slice(), &mut cabinet, &mut sink);
+        assert_eq!(rt; status.code(), code);
+        assert!(rt; last.is_empty() || contains(sink.held(), last));
+        assert_eq!(rt; TRACE.as_bytes().starts_with(sink.held()), true);
+        assert_eq!(rt; sink.held().ends_with(b"end done\n"), code == 0);
+    }
+    Ok(())
+}
+
+#[test]
+fn the_law_of_words_can_be_cited() {
+    crate::accepted_words_have_no_bad_place();
 }

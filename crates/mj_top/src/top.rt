@@ -1,12 +1,12 @@
 // The top call: what a command does, from its words to its answer.
 ghost use Rattle.std.specs.Prelude.{◌≡◌, IsTrue, None, Some, length, map, string_bytes};
 ghost use Rattle.std.specs.Option.{ForSome};
-ghost use Rattle.mj_tape.specs.Judging.{judged};
-ghost use Rattle.mj_top.specs.Controls.{control, values_of, Serves};
+ghost use Rattle.mj_tape.specs.Judging.{tape_verdict};
+ghost use Rattle.mj_top.specs.Controls.{tape_control, tape_values, Serves};
 ghost use Rattle.mj_top.specs.Lawful.{IsLawful};
-ghost use Rattle.mj_top.specs.Words.{bad_place as bad_place_lem, step_count as step_count_lem, tape_of as tape_of_lem};
-ghost use Rattle.mj_top.specs.Model.{model_judged};
-ghost use Rattle.mj_top.specs.Outcome.{words_refused, model_refused, tape_refused, status_of as status_of_lem, ran, with_tape, with_tape_name, with_model, tape_room, outcome};
+ghost use Rattle.mj_top.specs.Words as command;
+ghost use Rattle.mj_top.specs.Model.{model_verdict};
+ghost use Rattle.mj_top.specs.Outcome as spec;
 ghost use Rattle.mj_top.specs.Ends.{Answers, WritesNothing, HasCause, Completes, HasTapeCause, Judges, Ends, EndsOrMemory, unless_failed};
 
 use crate::model::read_model;
@@ -40,7 +40,7 @@ fn answered(written: Result<(), Failed>, status: Status) -> Status
 
 // The answer to a run's end.
 fn status_of(end: End) -> Status
-    ensures { result ≡ status_of_lem end }
+    ensures { result ≡ spec.status_of end }
 {
     match end {
         End::Done => Status::Done,
@@ -50,7 +50,7 @@ fn status_of(end: End) -> Status
 
 // Refused words. Takes no memory.
 fn refuse_words<S: Sink>(sink: &mut S, at: usize) -> Status
-    ensures { Ends S.holds S.faults (words_refused at) sink.old result sink.new }
+    ensures { Ends S.holds S.faults (spec.words_refused at) sink.old result sink.new }
 {
     let mut page = Page::new();
     send_words_refusal(sink, &mut page, at);
@@ -60,7 +60,7 @@ fn refuse_words<S: Sink>(sink: &mut S, at: usize) -> Status
 
 // A refused model.
 fn refuse_model<S: Sink>(sink: &mut S, fault: ModelFault) -> Status
-    ensures { Ends S.holds S.faults (model_refused fault) sink.old result sink.new }
+    ensures { Ends S.holds S.faults (spec.model_refused fault) sink.old result sink.new }
 {
     let mut page = Page::new();
     send_model_refusal(sink, &mut page, &fault);
@@ -70,7 +70,7 @@ fn refuse_model<S: Sink>(sink: &mut S, fault: ModelFault) -> Status
 
 // A refused tape.
 fn refuse_tape<S: Sink>(sink: &mut S, fault: TapeFault) -> Status
-    ensures { Ends S.holds S.faults (tape_refused fault) sink.old result sink.new }
+    ensures { Ends S.holds S.faults (spec.tape_refused fault) sink.old result sink.new }
 {
     let mut page = Page::new();
     send_tape_refusal(sink, &mut page, 1, fault);
@@ -82,7 +82,8 @@ fn refuse_tape<S: Sink>(sink: &mut S, fault: TapeFault) -> Status
 fn run_model<S: Sink>(sink: &mut S, model: &SlideModel, tape: &Option<Tape>, steps: u32) -> Status
     requires lawful { IsLawful model.now }
     requires serves { Serves tape.now (length model.now.motors) steps }
-    ensures { Ends S.holds S.faults (ran steps model.now (control (values_of tape.now))) sink.old result sink.new }
+    ensures { Ends S.holds S.faults
+        (spec.ran steps model.now (tape_control (tape_values tape.now))) sink.old result sink.new }
 {
     let mut page = Page::new();
     match send_run(sink, &mut page, model, tape, steps) {
@@ -103,7 +104,10 @@ fn run_tape_file<S: Sink>(
     steps: u32,
 ) -> Status
     requires { IsLawful model.now }
-    ensures { EndsOrMemory S.holds S.faults (with_tape steps model.now (judged (length model.now.motors) steps tape_room bytes.now)) sink.old result sink.new }
+    ensures { EndsOrMemory S.holds S.faults
+        (spec.with_tape steps model.now
+        (tape_verdict
+        (length model.now.motors) steps spec.tape_room bytes.now)) sink.old result sink.new }
 {
     match tape(alloc, model, bytes, steps, TAPE_ROOM) {
         Ok(tape) => run_model(sink, model, &Some(tape), steps),
@@ -123,9 +127,14 @@ fn run_with_tape<C: Cabinet, S: Sink>(
     sink: &mut S,
 ) -> Status
     requires { IsLawful model.now }
-    ensures outcome { IsTrue (C.tells cabinet.old) → Answers (with_tape_name (C.holds cabinet.old) (step_count_lem (map string_bytes words.now)) model.now (tape_of_lem (map string_bytes words.now))) result (S.holds sink.old) (S.holds sink.new) }
+    ensures outcome { IsTrue (C.tells cabinet.old) →
+        Answers (spec.with_tape_name (C.holds cabinet.old)
+        (command.step_count (map string_bytes words.now)) model.now
+        (command.tape_of (map string_bytes words.now))) result (S.holds sink.old)
+        (S.holds sink.new) }
     ensures nothing { WritesNothing result (S.holds sink.old) (S.holds sink.new) }
-    ensures cause { HasTapeCause (tape_of_lem (map string_bytes words.now)) result (C.faults cabinet.old) (C.faults cabinet.new) (S.faults sink.old) (S.faults sink.new) }
+    ensures cause { HasTapeCause (command.tape_of (map string_bytes words.now)) result
+        (C.faults cabinet.old) (C.faults cabinet.new) (S.faults sink.old) (S.faults sink.new) }
 {
     match tape_of(words) {
         None => run_model(sink, model, &None, step_count(words)),
@@ -145,10 +154,15 @@ fn run_model_file<C: Cabinet, S: Sink>(
     cabinet: &mut C,
     sink: &mut S,
 ) -> Status
-    ensures outcome { IsTrue (C.tells cabinet.old) → Answers (with_model (C.holds cabinet.old) (step_count_lem (map string_bytes words.now)) (tape_of_lem (map string_bytes words.now)) (model_judged bytes.now)) result (S.holds sink.old) (S.holds sink.new) }
+    ensures outcome { IsTrue (C.tells cabinet.old) →
+        Answers (spec.with_model (C.holds cabinet.old)
+        (command.step_count (map string_bytes words.now))
+        (command.tape_of (map string_bytes words.now)) (model_verdict bytes.now)) result
+        (S.holds sink.old) (S.holds sink.new) }
     ensures nothing { WritesNothing result (S.holds sink.old) (S.holds sink.new) }
-    ensures cause { HasTapeCause (tape_of_lem (map string_bytes words.now)) result (C.faults cabinet.old) (C.faults cabinet.new) (S.faults sink.old) (S.faults sink.new) }
-    ensures accepted { result ≡ Status.ReadFault → Judges (model_judged bytes.now) }
+    ensures cause { HasTapeCause (command.tape_of (map string_bytes words.now)) result
+        (C.faults cabinet.old) (C.faults cabinet.new) (S.faults sink.old) (S.faults sink.new) }
+    ensures accepted { result ≡ Status.ReadFault → Judges (model_verdict bytes.now) }
 {
     match read_model(alloc, bytes) {
         Ok(model) => run_with_tape(alloc, words, &model, cabinet, sink),
@@ -166,10 +180,14 @@ fn run_accepted<C: Cabinet, S: Sink>(
     cabinet: &mut C,
     sink: &mut S,
 ) -> Status
-    requires { bad_place_lem (map string_bytes words.now) ≡ None }
-    ensures outcome { IsTrue (C.tells cabinet.old) → Answers (outcome (map string_bytes words.now) (C.holds cabinet.old)) result (S.holds sink.old) (S.holds sink.new) }
+    requires { command.bad_place (map string_bytes words.now) ≡ None }
+    ensures outcome { IsTrue (C.tells cabinet.old) →
+        Answers (spec.outcome (map string_bytes words.now) (C.holds cabinet.old)) result
+        (S.holds sink.old) (S.holds sink.new) }
     ensures nothing { WritesNothing result (S.holds sink.old) (S.holds sink.new) }
-    ensures cause { HasCause (map string_bytes words.now) (C.tells cabinet.old) (C.holds cabinet.old) result (C.faults cabinet.old) (C.faults cabinet.new) (S.faults sink.old) (S.faults sink.new) }
+    ensures cause { HasCause (map string_bytes words.now) (C.tells cabinet.old)
+        (C.holds cabinet.old) result (C.faults cabinet.old) (C.faults cabinet.new)
+        (S.faults sink.old) (S.faults sink.new) }
 {
     match cabinet.read(alloc, model_of(words), MODEL_CAP) {
         Ok(bytes) => run_model_file(alloc, words, bytes.as_slice(), cabinet, sink),
@@ -193,11 +211,21 @@ pub fn run_words<R: Threads + Sync, C: Cabinet, S: Sink>(
     cabinet: &mut C,
     sink: &mut S,
 ) -> Status
-    ensures outcome { IsTrue (C.tells cabinet.old) → Answers (outcome (map string_bytes words.now) (C.holds cabinet.old)) result (S.holds sink.old) (S.holds sink.new) }
+    ensures outcome { IsTrue (C.tells cabinet.old) →
+        Answers (spec.outcome (map string_bytes words.now) (C.holds cabinet.old)) result
+        (S.holds sink.old) (S.holds sink.new) }
     ensures nothing { WritesNothing result (S.holds sink.old) (S.holds sink.new) }
-    ensures refused { ForSome (bad_place_lem (map string_bytes words.now)) (λ at. Answers (Some (words_refused at)) result (S.holds sink.old) (S.holds sink.new)) }
-    ensures cause { HasCause (map string_bytes words.now) (C.tells cabinet.old) (C.holds cabinet.old) result (C.faults cabinet.old) (C.faults cabinet.new) (S.faults sink.old) (S.faults sink.new) }
-    ensures complete { IsTrue (C.tells cabinet.old) → ForSome (outcome (map string_bytes words.now) (C.holds cabinet.old)) (λ x. Completes (map string_bytes words.now) (C.tells cabinet.old) (C.holds cabinet.old) x result (C.faults cabinet.old) (C.faults cabinet.new) (S.faults sink.old) (S.faults sink.new)) }
+    ensures refused { ForSome (command.bad_place (map string_bytes words.now))
+        (λ at. Answers (Some (spec.words_refused at)) result (S.holds sink.old)
+        (S.holds sink.new)) }
+    ensures cause { HasCause (map string_bytes words.now) (C.tells cabinet.old)
+        (C.holds cabinet.old) result (C.faults cabinet.old) (C.faults cabinet.new)
+        (S.faults sink.old) (S.faults sink.new) }
+    ensures complete { IsTrue (C.tells cabinet.old) →
+        ForSome (spec.outcome (map string_bytes words.now) (C.holds cabinet.old))
+        (λ x. Completes (map string_bytes words.now) (C.tells cabinet.old)
+        (C.holds cabinet.old) x result (C.faults cabinet.old) (C.faults cabinet.new)
+        (S.faults sink.old) (S.faults sink.new)) }
 {
     match bad_place(words) {
         Some(at) => refuse_words(sink, at),

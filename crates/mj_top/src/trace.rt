@@ -2,7 +2,7 @@
 ghost use Rattle.std.specs.Prelude.{◌≡◌, ◌++◌, ℕ, codes, decimal, IsTrue};
 ghost use Rattle.std.specs.Fmt.{signed_decimal};
 ghost use Rattle.mj_io.specs.Sent.{Sent};
-ghost use Rattle.mj_top.specs.Trace.{line, header_text, no_rows_text, block_text, end_text};
+ghost use Rattle.mj_top.specs.Trace as spec;
 
 use crate::step::Motion;
 use fx_num::Fix;
@@ -18,7 +18,8 @@ pub struct Block {
 
 // A label and a number's raw value on a line.
 fn send_number_line<S: Sink>(sink: &mut S, page: &mut Page, label: &[u8], n: &Fix<32>)
-    ensures { Sent S.holds S.faults sink.old page.old (line label.now (signed_decimal n.now.mid)) sink.new page.new }
+    ensures { Sent S.holds S.faults sink.old page.old
+        (spec.line label.now (signed_decimal n.now.mid)) sink.new page.new }
 {
     send(sink, page, label);
     send_signed(sink, page, &n.mid);
@@ -27,7 +28,8 @@ fn send_number_line<S: Sink>(sink: &mut S, page: &mut Page, label: &[u8], n: &Fi
 
 // A label and an unsigned number on a line.
 fn send_unsigned_line<S: Sink>(sink: &mut S, page: &mut Page, label: &[u8], n: &u32)
-    ensures { Sent S.holds S.faults sink.old page.old (line label.now (decimal n.now)) sink.new page.new }
+    ensures { Sent S.holds S.faults sink.old page.old
+        (spec.line label.now (decimal n.now)) sink.new page.new }
 {
     send(sink, page, label);
     send_unsigned(sink, page, u64::from(*n));
@@ -36,7 +38,8 @@ fn send_unsigned_line<S: Sink>(sink: &mut S, page: &mut Page, label: &[u8], n: &
 
 // A label and a wide number on a line.
 fn send_wide_line<S: Sink>(sink: &mut S, page: &mut Page, label: &[u8], n: &i128)
-    ensures { Sent S.holds S.faults sink.old page.old (line label.now (signed_decimal n.now)) sink.new page.new }
+    ensures { Sent S.holds S.faults sink.old page.old
+        (spec.line label.now (signed_decimal n.now)) sink.new page.new }
 {
     send(sink, page, label);
     send_wide(sink, page, n);
@@ -45,7 +48,7 @@ fn send_wide_line<S: Sink>(sink: &mut S, page: &mut Page, label: &[u8], n: &i128
 
 /// The header of a run of this many steps. Nothing is left in the page.
 pub fn send_header<S: Sink>(sink: &mut S, page: &mut Page, steps: u32)
-    ensures { Sent S.holds S.faults sink.old page.old (header_text steps) sink.new page.new }
+    ensures { Sent S.holds S.faults sink.old page.old (spec.header_text steps) sink.new page.new }
 {
     send_unsigned_line(sink, page, b"trace 1 nq=1 nv=1 steps=", &steps);
     flush(sink, page);
@@ -54,7 +57,8 @@ pub fn send_header<S: Sink>(sink: &mut S, page: &mut Page, steps: u32)
 /// The block of one step. Nothing is left in the page.
 #[tactic(auto, unfolding(crate::specs::Trace::block_text))]
 pub fn send_block<S: Sink>(sink: &mut S, page: &mut Page, block: &Block)
-    ensures { Sent S.holds S.faults sink.old page.old (block_text block.now) sink.new page.new }
+    ensures { Sent S.holds S.faults sink.old page.old
+        (spec.block_text block.now) sink.new page.new }
 {
     send_unsigned_line(sink, page, b"step ", &block.step);
     send_number_line(sink, page, b"q ", &block.made.after.q);
@@ -72,7 +76,8 @@ pub fn send_block<S: Sink>(sink: &mut S, page: &mut Page, block: &Block)
 // The end of a run that was refused.
 #[tactic(auto, unfolding(crate::specs::Trace::end_text))]
 fn send_early_end<S: Sink>(sink: &mut S, page: &mut Page, step: usize, kind: Quantity, index: usize)
-    ensures { Sent S.holds S.faults sink.old page.old (end_text (End.OutOfRange step kind index)) sink.new page.new }
+    ensures { Sent S.holds S.faults sink.old page.old
+        (spec.end_text (End.OutOfRange step kind index)) sink.new page.new }
 {
     send(sink, page, b"end out-of-range step=");
     send_size(sink, page, step);
@@ -86,7 +91,7 @@ fn send_early_end<S: Sink>(sink: &mut S, page: &mut Page, step: usize, kind: Qua
 /// The line of a run's end.
 #[tactic(auto, unfolding(crate::specs::Trace::end_text))]
 pub fn send_end<S: Sink>(sink: &mut S, page: &mut Page, end: &End)
-    ensures { Sent S.holds S.faults sink.old page.old (end_text end.now) sink.new page.new }
+    ensures { Sent S.holds S.faults sink.old page.old (spec.end_text end.now) sink.new page.new }
 {
     match end {
         End::Done => send(sink, page, b"end done\n"),

@@ -1,11 +1,12 @@
 // Judging the words after the program's name. It takes no memory.
 ghost use Rattle.std.specs.Prelude.{◌≡◌, ◌+◌, ◌^◌, min, ◌*◌, ◌<◌, ◌≤◌, ℕ, List, [], map, length, Option, Some, None, is_some, option_map, string_bytes, MatchResult};
 ghost use Rattle.std.specs.List.{list_all};
-ghost use Rattle.mj_top.specs.Words.{word, is_digit, leads as leads_lem, is_number as is_number_lem, digits_value, number_up_to as number_up_to_lem, is_name as is_name_lem, steps_of as steps_of_lem, fits as fits_lem, given as given_lem, bad_command as bad_command_lem, stood_before as stood_before_lem, bad_name as bad_name_lem, bad_names as bad_names_lem, value_missing as value_missing_lem, bad_value as bad_value_lem, bad_values as bad_values_lem, name_missing as name_missing_lem, bad_place as bad_place_lem, model_of as model_of_lem, step_count as step_count_lem, tape_of as tape_of_lem};
+ghost use Rattle.mj_top.specs.Accepted.{AcceptedHaveNoBadPlace};
+ghost use Rattle.mj_top.specs.Words as spec;
 
 // Word `k`, from 0, or the empty word past the end.
 fn word_at(words: &[String], k: usize) -> &str
-    ensures { result.now ≡ word (map string_bytes words.now) k }
+    ensures { result.now ≡ spec.word (map string_bytes words.now) k }
 {
     if k < words.len() {
         words[k].as_str()
@@ -15,26 +16,26 @@ fn word_at(words: &[String], k: usize) -> &str
 }
 
 fn is_digit(byte: u8) -> bool
-    ensures { result ≡ is_digit byte }
+    ensures { result ≡ spec.is_digit byte }
 {
     48 <= byte && byte <= 57
 }
 
 fn all_digits(text: &[u8]) -> bool
-    ensures { result ≡ list_all is_digit text.now }
+    ensures { result ≡ list_all spec.is_digit text.now }
 {
     text.iter().all(|byte| is_digit(*byte))
 }
 
 // Whether the digit may lead the rest.
 fn leads(first: u8, rest: &[u8]) -> bool
-    ensures { result ≡ leads_lem first rest.now }
+    ensures { result ≡ spec.leads first rest.now }
 {
     rest.is_empty() || first != 48
 }
 
 fn is_number(text: &[u8]) -> bool
-    ensures { result ≡ is_number_lem text.now }
+    ensures { result ≡ spec.is_number text.now }
 {
     match text.split_first() {
         None => false,
@@ -44,7 +45,7 @@ fn is_number(text: &[u8]) -> bool
 
 // The number that digits write, or any number above `most` where it is larger.
 fn capped_value(digits: &[u8], most: u32) -> u64
-    ensures { result ≡ min (digits_value digits.now) (most + 1) }
+    ensures { result ≡ min (spec.digits_value digits.now) (most + 1) }
 {
     let cap = u64::from(most) + 1;
     let mut n = 0;
@@ -55,7 +56,7 @@ fn capped_value(digits: &[u8], most: u32) -> u64
 }
 
 fn number_up_to(text: &[u8], most: u32) -> Option<u32>
-    ensures { result ≡ number_up_to_lem most text.now }
+    ensures { result ≡ spec.number_up_to most text.now }
 {
     if !is_number(text) {
         return None;
@@ -69,20 +70,20 @@ fn number_up_to(text: &[u8], most: u32) -> Option<u32>
 }
 
 fn is_name(text: &str) -> bool
-    ensures { result ≡ is_name_lem text.now }
+    ensures { result ≡ spec.is_name text.now }
 {
     text == "--model" || text == "--steps" || text == "--tape"
 }
 
 fn steps_of(text: &str) -> Option<u32>
-    ensures { result ≡ steps_of_lem text.now }
+    ensures { result ≡ spec.steps_of text.now }
 {
     number_up_to(text.as_bytes(), 1_000_000)
 }
 
 // Whether a value fits its name.
 fn fits(name: &str, written: &str) -> bool
-    ensures { result ≡ fits_lem name.now written.now }
+    ensures { result ≡ spec.fits name.now written.now }
 {
     if name == "--steps" {
         steps_of(written).is_some()
@@ -94,7 +95,7 @@ fn fits(name: &str, written: &str) -> bool
 // Whether the name of pair `j` stood before.
 fn stood_before(words: &[String], j: usize) -> bool
     requires { 2 * j + 1 < length words.now }
-    ensures { result ≡ stood_before_lem (map string_bytes words.now) j }
+    ensures { result ≡ spec.stood_before (map string_bytes words.now) j }
 {
     for i in 0..j {
         if word_at(words, 2 * i + 1) == word_at(words, 2 * j + 1) {
@@ -107,7 +108,7 @@ fn stood_before(words: &[String], j: usize) -> bool
 // The place of the name of pair `j`, unless it is a name of the command that didn't stand before.
 fn bad_name(words: &[String], j: usize) -> Option<usize>
     requires { 2 * j + 1 < length words.now }
-    ensures { result ≡ bad_name_lem (map string_bytes words.now) j }
+    ensures { result ≡ spec.bad_name (map string_bytes words.now) j }
 {
     if is_name(word_at(words, 2 * j + 1)) && !stood_before(words, j) {
         None
@@ -117,7 +118,7 @@ fn bad_name(words: &[String], j: usize) -> Option<usize>
 }
 
 fn bad_names(words: &[String]) -> Option<usize>
-    ensures { result ≡ bad_names_lem (map string_bytes words.now) }
+    ensures { result ≡ spec.bad_names (map string_bytes words.now) }
 {
     for j in 0..words.len() / 2 {
         if let Some(at) = bad_name(words, j) {
@@ -129,7 +130,7 @@ fn bad_names(words: &[String]) -> Option<usize>
 
 fn bad_value(words: &[String], j: usize) -> Option<usize>
     requires { 2 * j + 2 < length words.now }
-    ensures { result ≡ bad_value_lem (map string_bytes words.now) j }
+    ensures { result ≡ spec.bad_value (map string_bytes words.now) j }
 {
     if fits(word_at(words, 2 * j + 1), word_at(words, 2 * j + 2)) {
         None
@@ -139,7 +140,7 @@ fn bad_value(words: &[String], j: usize) -> Option<usize>
 }
 
 fn bad_values(words: &[String]) -> Option<usize>
-    ensures { result ≡ bad_values_lem (map string_bytes words.now) }
+    ensures { result ≡ spec.bad_values (map string_bytes words.now) }
 {
     for j in 0..words.len().saturating_sub(1) / 2 {
         if let Some(at) = bad_value(words, j) {
@@ -151,7 +152,7 @@ fn bad_values(words: &[String]) -> Option<usize>
 
 /// The value that is given under a name.
 pub fn given<'a>(words: &'a [String], text: &str) -> Option<&'a str>
-    ensures { option_map (λ s. s.now) result ≡ given_lem (map string_bytes words.now) text.now }
+    ensures { option_map (λ s. s.now) result ≡ spec.given (map string_bytes words.now) text.now }
 {
     for j in 0..words.len().saturating_sub(1) / 2 {
         if word_at(words, 2 * j + 1) == text {
@@ -162,7 +163,7 @@ pub fn given<'a>(words: &'a [String], text: &str) -> Option<&'a str>
 }
 
 fn bad_command(words: &[String]) -> Option<usize>
-    ensures { result ≡ bad_command_lem (map string_bytes words.now) }
+    ensures { result ≡ spec.bad_command (map string_bytes words.now) }
 {
     if word_at(words, 0) == "run" {
         None
@@ -173,7 +174,7 @@ fn bad_command(words: &[String]) -> Option<usize>
 
 fn value_missing(words: &[String]) -> Option<usize>
     requires { length words.now < 2 ^ 63 }
-    ensures { result ≡ value_missing_lem (map string_bytes words.now) }
+    ensures { result ≡ spec.value_missing (map string_bytes words.now) }
 {
     if words.len() / 2 == words.len().saturating_sub(1) / 2 {
         None
@@ -184,7 +185,7 @@ fn value_missing(words: &[String]) -> Option<usize>
 
 fn name_missing(words: &[String]) -> Option<usize>
     requires { length words.now < 2 ^ 63 }
-    ensures { result ≡ name_missing_lem (map string_bytes words.now) }
+    ensures { result ≡ spec.name_missing (map string_bytes words.now) }
 {
     if given(words, "--model").is_some() && given(words, "--steps").is_some() {
         None
@@ -195,7 +196,7 @@ fn name_missing(words: &[String]) -> Option<usize>
 
 /// The first bad place of the words, counted from 1; none where they are accepted.
 pub fn bad_place(words: &[String]) -> Option<usize>
-    ensures { result ≡ bad_place_lem (map string_bytes words.now) }
+    ensures { result ≡ spec.bad_place (map string_bytes words.now) }
 {
     if let Some(at) = bad_command(words) {
         return Some(at);
@@ -214,30 +215,27 @@ pub fn bad_place(words: &[String]) -> Option<usize>
 
 /// The name of the model's file that accepted words give.
 pub fn model_of(words: &[String]) -> &str
-    ensures { result.now ≡ model_of_lem (map string_bytes words.now) }
+    ensures { result.now ≡ spec.model_of (map string_bytes words.now) }
 {
-    match given(words, "--model") {
-        Some(name) => name,
-        None => "",
-    }
+    given(words, "--model").unwrap_or("")
 }
 
 /// How many steps accepted words ask for.
 pub fn step_count(words: &[String]) -> u32
-    ensures { result ≡ step_count_lem (map string_bytes words.now) }
+    ensures { result ≡ spec.step_count (map string_bytes words.now) }
 {
-    match given(words, "--steps") {
-        Some(text) => match steps_of(text) {
-            Some(steps) => steps,
-            None => 0,
-        },
-        None => 0,
-    }
+    given(words, "--steps").and_then(steps_of).unwrap_or(0)
 }
 
 /// The name of the tape's file, where accepted words give one.
 pub fn tape_of(words: &[String]) -> Option<&str>
-    ensures { option_map (λ s. s.now) result ≡ tape_of_lem (map string_bytes words.now) }
+    ensures { option_map (λ s. s.now) result ≡ spec.tape_of (map string_bytes words.now) }
 {
     given(words, "--tape")
 }
+
+/// No word is bad exactly where the words are accepted: the command, and after it pairs of a name and
+/// a value, with known names, none of them twice, values that fit and the required names given.
+pub fn accepted_words_have_no_bad_place()
+    ensures { AcceptedHaveNoBadPlace }
+{}

@@ -27,51 +27,40 @@ pub(super) fn value_at<'a>(table: &'a Table, key: &str) -> Option<&'a Value>
 pub(super) fn text_at<'a>(table: &'a Table, key: &str) -> Option<&'a str>
     ensures { option_map (λ s. s.now) result ≡ spec.text_at key.now (table_view table.now) }
 {
-    match value_at(table, key) {
-        Some(value) => value.as_str(),
-        None => None,
-    }
+    value_at(table, key)?.as_str()
 }
 
 /// The whole number at a key, if the key holds one within the bounds.
 pub(super) fn integer_at(table: &Table, key: &str, bounds: Bounds) -> Option<i64>
-    ensures value { result ≡ spec.integer_at key.now bounds.least bounds.most (table_view table.now) }
+    ensures value { result ≡ spec.integer_at key.now bounds.least bounds.most
+        (table_view table.now) }
     ensures range { IfSome result (λ z. (bounds.least ≤ℤ z) × (z ≤ℤ bounds.most)) }
 {
-    match value_at(table, key) {
-        Some(value) => integer_between(value, bounds),
-        None => None,
-    }
+    integer_between(value_at(table, key)?, bounds)
 }
 
 /// The table at a key, if the key holds a table.
 pub(super) fn table_at<'a>(table: &'a Table, key: &str) -> Option<&'a Table>
-    ensures { option_map (λ t. table_view t.now) result ≡ spec.table_at key.now (table_view table.now) }
+    ensures { option_map (λ t. table_view t.now) result ≡ spec.table_at key.now
+        (table_view table.now) }
 {
-    match value_at(table, key) {
-        Some(value) => value.as_table(),
-        None => None,
-    }
+    value_at(table, key)?.as_table()
 }
 
 /// The array at a key, if the key holds an array.
 pub(super) fn items_at<'a>(table: &'a Table, key: &str) -> Option<&'a Array>
-    ensures { option_map (λ v. array_view v.now) result ≡ spec.items_at key.now (table_view table.now) }
+    ensures { option_map (λ v. array_view v.now) result ≡ spec.items_at key.now
+        (table_view table.now) }
 {
-    match value_at(table, key) {
-        Some(value) => value.as_array(),
-        None => None,
-    }
+    value_at(table, key)?.as_array()
 }
 
 /// The table that is the only item of the array at a key, if the key holds such an array.
 pub(super) fn only_table_at<'a>(table: &'a Table, key: &str) -> Option<&'a Table>
-    ensures { option_map (λ t. table_view t.now) result ≡ spec.only_table_at key.now (table_view table.now) }
+    ensures { option_map (λ t. table_view t.now) result ≡ spec.only_table_at key.now
+        (table_view table.now) }
 {
-    match items_at(table, key) {
-        Some(items) => only_table(items),
-        None => None,
-    }
+    only_table(items_at(table, key)?)
 }
 
 /// The table that is the only item of an array.
@@ -91,16 +80,14 @@ pub(super) fn integer_between(value: &Value, bounds: Bounds) -> Option<i64>
     ensures value { result ≡ spec.integer_between bounds.least bounds.most (view value.now) }
     ensures range { IfSome result (λ z. (bounds.least ≤ℤ z) × (z ≤ℤ bounds.most)) }
 {
-    match value.as_integer() {
-        Some(number) => between(number, bounds),
-        None => None,
-    }
+    between(value.as_integer()?, bounds)
 }
 
 /// The whole number at an index of an array, if one within the bounds stands there.
 pub(super) fn integer_item(items: &Array, index: usize, bounds: Bounds) -> Option<i64>
     requires { index < vec_len items.now }
-    ensures value { result ≡ spec.integer_item index bounds.least bounds.most (array_view items.now) }
+    ensures value { result ≡ spec.integer_item index bounds.least bounds.most
+        (array_view items.now) }
     ensures range { IfSome result (λ z. (bounds.least ≤ℤ z) × (z ≤ℤ bounds.most)) }
 {
     integer_between(&items[index], bounds)

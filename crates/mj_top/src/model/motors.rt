@@ -8,10 +8,13 @@ use super::document::{
     Bounds, at_scale, integer_between, integer_item, only_keys, text_at, value_at,
 };
 use fx_num::Fix;
-use mj_types::{ControlRange, ModelCode, Motors, SlideMotor};
+use mj_types::{ModelCode, Range, SlideMotor};
 use std::alloc::Global;
 use toml::value::Array;
 use toml::{Table, Value};
+
+/// The motors of a model, in their order.
+type Motors = fx_list::Array<SlideMotor>;
 
 /// A model has at most this many motors.
 const MOST_MOTORS: usize = 64;
@@ -29,7 +32,7 @@ pub(super) fn motors_at(alloc: Global, document: &Table, joint: &str) -> Result<
 {
     match value_at(document, "motor") {
         Some(value) => motors_in(alloc, value, joint),
-        None => Ok(Motors::from_vec(Vec::new(alloc))),
+        None => Ok(fx_list::Array::from_vec(Vec::new(alloc))),
     }
 }
 
@@ -62,7 +65,7 @@ fn each_motor(alloc: Global, values: &[Value], joint: &str) -> Result<Motors, Mo
         let motor = motor_in(value, joint)?;
         push(&mut motors, motor)?;
     }
-    Ok(Motors::from_vec(motors))
+    Ok(fx_list::Array::from_vec(motors))
 }
 
 /// Appends a motor.
@@ -96,12 +99,12 @@ fn motor_of(table: &Table, joint: &str) -> Option<SlideMotor>
     if text_at(table, "joint")? != joint {
         return None;
     }
-    geared(table)
+    gear_and_range(table)
 }
 
 /// A motor with the gear and the range that its table sets.
-fn geared(table: &Table) -> Option<SlideMotor>
-    ensures { result ≡ spec.geared (table_view table.now) }
+fn gear_and_range(table: &Table) -> Option<SlideMotor>
+    ensures { result ≡ spec.gear_and_range (table_view table.now) }
 {
     let gear = gear_of(table)?;
     let ctrlrange = ctrlrange_of(table)?;
@@ -126,14 +129,11 @@ fn gear_in(value: &Value) -> Option<Fix<32>>
         least: -1024,
         most: 1024,
     };
-    match integer_between(value, bounds) {
-        Some(number) => Some(at_scale(number)),
-        None => None,
-    }
+    Some(at_scale(integer_between(value, bounds)?))
 }
 
 /// A motor's range of controls, if it has one.
-fn ctrlrange_of(table: &Table) -> Option<Option<ControlRange>>
+fn ctrlrange_of(table: &Table) -> Option<Option<Range>>
     ensures { result ≡ spec.ctrlrange_of (get_member (codes "ctrlrange") (table_view table.now)) }
 {
     match value_at(table, "ctrlrange") {
@@ -143,17 +143,14 @@ fn ctrlrange_of(table: &Table) -> Option<Option<ControlRange>>
 }
 
 /// The range of controls that a value is.
-fn ctrlrange_in(value: &Value) -> Option<Option<ControlRange>>
+fn ctrlrange_in(value: &Value) -> Option<Option<Range>>
     ensures { result ≡ spec.ctrlrange_of (Some (view value.now)) }
 {
-    match range_of(value.as_array()?) {
-        Some(range) => Some(Some(range)),
-        None => None,
-    }
+    Some(Some(range_of(value.as_array()?)?))
 }
 
 /// The range that an array of two whole numbers is.
-fn range_of(items: &Array) -> Option<ControlRange>
+fn range_of(items: &Array) -> Option<Range>
     ensures { result ≡ spec.range_of (array_view items.now) }
 {
     if items.len() == 2 {
@@ -164,7 +161,7 @@ fn range_of(items: &Array) -> Option<ControlRange>
 }
 
 /// The range from an array's first whole number to its second, which is greater.
-fn range_of_two(items: &Array) -> Option<ControlRange>
+fn range_of_two(items: &Array) -> Option<Range>
     requires { 2 ≤ vec_len items.now }
     ensures { result ≡ spec.range_of_two (array_view items.now) }
 {
@@ -174,13 +171,13 @@ fn range_of_two(items: &Array) -> Option<ControlRange>
 }
 
 /// The range from one number to another, if that is greater.
-fn range_from(least: i64, greatest: i64) -> Option<ControlRange>
+fn range_from(least: i64, greatest: i64) -> Option<Range>
     requires least { unsigned_abs least ≤ 2 ^ 20 }
     requires greatest { unsigned_abs greatest ≤ 2 ^ 20 }
     ensures { result ≡ spec.range_from least greatest }
 {
     if least < greatest {
-        Some(ControlRange {
+        Some(Range {
             least: at_scale(least),
             greatest: at_scale(greatest),
         })

@@ -1,7 +1,7 @@
 use super::read_model;
 use super::timestep::timestep_of;
 use fx_num::{Fix, Number};
-use mj_types::{ControlRange, ModelCode, SlideMotor};
+use mj_types::{ModelCode, Range, SlideMotor};
 use std::alloc::{AllocError, Global};
 use std::test::Fail;
 
@@ -77,7 +77,7 @@ fn reads_motors(rt: HostRuntime) -> Result<(), Fail> {
     let alloc = rt.alloc();
     let limited = driven(alloc, "z", "gear = 2\nctrlrange = [-1, 1]\n")?;
     let plain = driven(alloc, "z", "")?;
-    let range = ControlRange {
+    let range = Range {
         least: raw(-4_294_967_296),
         greatest: raw(4_294_967_296),
     };

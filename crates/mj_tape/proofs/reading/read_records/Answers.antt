@@ -31,6 +31,7 @@ loop-row-init c =
       fr.source,
       rw fr.state (left-start c.args.width c.args.room text),
       λ k d h. absurd (omega arith),
+      rw f at fr.flexible,
     )
 
 pub loop-row-preserved : goal.loop-row-preserved
@@ -47,6 +48,7 @@ loop-row-preserved c =
       t.4,
       left-step c.args.width c.args.room (strip_bom c.args.bytes.now) c.loop-row.count _ c.loop-row.values.items _ c.loop-row.row-iterator.rdr.state _ inv.4 t.0 (fields_of c.in_ok-fields.fields) inv.6 t.1 t.2 t.3 refl p.judged p.grew,
       p.small inv.7,
+      rw (c.in-Some.is, c.in_ok-fields.ensures) at ((c.next.ensures.steps inv.2 inv.0).3) ∙ inv.8,
     )
 
 pub returns-in_err-push_record-clause-judged : goal.returns-in_err-push_record-clause-judged

@@ -1,4 +1,4 @@
-use Rattle.std.proofs.Common.{◌≡◌, ◌<◌, ℕ, List, Some}
+use Rattle.std.proofs.Common.{◌≡◌, ◌<◌, ℕ, List, Some, true}
 use Rattle.csv.specs.Reading.{Ready, default_config, source_of, strip_bom}
 use Rattle.csv.specs.declared.reader.Trim.TheVariants as trim
 use Rattle.mj_types.specs.Control.{AreSmall}
@@ -10,3 +10,4 @@ invariant-loop-row l = (l.row-iterator.rdr.trim ≡ trim.None) × Ready l.row-it
     × (y : List ℕ) × (source_of (λ s. Some s.now) l.row-iterator.rdr ≡ Some y)
     × Left l.width l.room (strip_bom l.fn.bytes) l.count l.values.items l.row-iterator.rdr.state y
     × AreSmall l.values.items
+    × (l.row-iterator.rdr.flexible ≡ true)

@@ -1,16 +1,17 @@
-use Rattle.std.proofs.Common.{◌≡◌, Some, Ok, Err, map, string_bytes, refl, subst}
+use Rattle.std.proofs.Common.{◌≡◌, Some, Ok, Err, map, string_bytes, refl, subst, ap}
 use Rattle.mj_types.specs.declared.status.Status.{Status}
 use Rattle.mj_top.specs.Words.{tape_of}
-use Rattle.mj_top.specs.Model.{model_judged}
+use Rattle.mj_top.specs.Model.{model_verdict, refusal}
 use Rattle.mj_top.specs.Outcome.{model_refused}
 use Rattle.mj_top.specs.Ends.{Ends}
-use Rattle.mj_top.proofs.Served.{model-ok, model-err}
+use Rattle.mj_io.proofs.Memory.{or_memory-ok, or_memory-err}
+use Rattle.mj_types.specs.declared.status.ModelCode.TheVariants.{Memory}
 use Rattle.mj_top.proofs.Endings.{answers-from_ends, nothing-from_ends, tape_cause-from_ends}
 use Rattle.mj_top.proofs.top.run_model_file.Goals as goal
 
 pub returns-in-Ok : goal.returns-in-Ok
 returns-in-Ok g c =
-    let judged : model_judged c.args.bytes.now ≡ Ok c.in-Ok.model = model-ok c.in-Ok.model (model_judged c.args.bytes.now) c.in-Ok.ensures.judged in
+    let judged : model_verdict c.args.bytes.now ≡ Ok c.in-Ok.model = or_memory-ok (refusal Memory) c.in-Ok.model (model_verdict c.args.bytes.now) c.in-Ok.ensures.judged in
     record {
       outcome = λ tells. rw judged (c.run_with_tape.ensures.outcome tells);
       nothing = c.run_with_tape.ensures.nothing;
@@ -20,7 +21,7 @@ returns-in-Ok g c =
 
 pub returns-in_default : goal.returns-in_default
 returns-in_default g c =
-    let judged : model_judged c.args.bytes.now ≡ Err c.in-Err.fault = model-err c.in-Err.fault (model_judged c.args.bytes.now) (λ same. c.in_default.not-Memory same) c.in-Err.ensures.judged in
+    let judged : model_verdict c.args.bytes.now ≡ Err c.in-Err.fault = or_memory-err (refusal Memory) c.in-Err.fault (model_verdict c.args.bytes.now) (λ same. c.in_default.not-Memory (ap (λ f. f.code) same)) c.in-Err.ensures.judged in
     let counts = g.C.Cabinet.faults c.args.cabinet.now in
     let outcome = model_refused c.in-Err.fault in
     let before = c.args.sink.now in

@@ -1,7 +1,7 @@
 use Rattle.std.proofs.Common.{◌≡◌, ◌∙◌, map, string_bytes, sym, Some, None, option_map, ap, take, length}
 use Rattle.mj_io.proofs.Growth.{Gives-held}
-use Rattle.mj_tape.specs.Judging.{judged}
-use Rattle.mj_top.specs.Controls.{control}
+use Rattle.mj_tape.specs.Judging.{tape_verdict}
+use Rattle.mj_top.specs.Controls.{tape_control}
 use Rattle.mj_top.specs.Words.{step_count, tape_of}
 use Rattle.mj_top.specs.Run.{run}
 use Rattle.mj_top.specs.Outcome.{ran, with_tape, with_tape_name, with_tape_file, tape_room, tape_cap}
@@ -14,13 +14,13 @@ returns-in-None g c =
     let held = g.C.Cabinet.holds c.args.cabinet.now in
     let counts = g.C.Cabinet.faults c.args.cabinet.now in
     let model = c.args.model.now in
-    let outcome = ran c.step_count.result model (control None) in
+    let outcome = ran c.step_count.result model (tape_control None) in
     let found : with_tape_name held (step_count words) model (tape_of words) ≡ Some outcome =
-    ap (with_tape_name held (step_count words) model) (sym c.in-None.ensures) ∙ ap (λ n. Some (ran n model (control None))) (sym c.step_count.ensures) in
+    ap (with_tape_name held (step_count words) model) (sym c.in-None.ensures) ∙ ap (λ n. Some (ran n model (tape_control None))) (sym c.step_count.ensures) in
     record {
       outcome = λ tells. answers-from_ends g.S.Sink.holds g.S.Sink.faults c.args.sink.now c.run_model.new.sink (with_tape_name held (step_count words) model (tape_of words)) outcome c.run_model.result found c.run_model.ensures;
       nothing = nothing-from_ends g.S.Sink.holds g.S.Sink.faults c.args.sink.now c.run_model.new.sink outcome c.run_model.result c.run_model.ensures;
-      cause = tape_cause-from_ends g.S.Sink.holds g.S.Sink.faults c.args.sink.now c.run_model.new.sink (tape_of words) outcome c.run_model.result counts counts (later-status_of (run model (control None) c.step_count.result).finish) c.run_model.ensures;
+      cause = tape_cause-from_ends g.S.Sink.holds g.S.Sink.faults c.args.sink.now c.run_model.new.sink (tape_of words) outcome c.run_model.result counts counts (later-status_of (run model (tape_control None) c.step_count.result).finish) c.run_model.ensures;
     }
 
 pub returns-in-Ok : goal.returns-in-Ok
@@ -28,7 +28,7 @@ returns-in-Ok g c =
     let words = map string_bytes c.args.words.now in
     let held = g.C.Cabinet.holds c.args.cabinet.now in
     let model = c.args.model.now in
-    let answer = judged (length model.motors) c.step_count-in-Ok.result tape_room c.as_slice.result.now in
+    let answer = tape_verdict (length model.motors) c.step_count-in-Ok.result tape_room c.as_slice.result.now in
     let outcome = with_tape c.step_count-in-Ok.result model answer in
     record {
       outcome = λ tells.
@@ -37,7 +37,7 @@ returns-in-Ok g c =
           let found : with_tape_name held (step_count words) model (tape_of words) ≡ Some outcome =
           ap (with_tape_name held (step_count words) model) (sym c.in-Some.ensures) ∙ ap (option_map (with_tape_file (step_count words) model)) given.1
           ∙ ap (λ n. Some (with_tape_file n model given.0)) (sym c.step_count-in-Ok.ensures)
-          ∙ ap (λ b. Some (with_tape c.step_count-in-Ok.result model (judged (length model.motors) c.step_count-in-Ok.result tape_room b))) (sym bytes) in
+          ∙ ap (λ b. Some (with_tape c.step_count-in-Ok.result model (tape_verdict (length model.motors) c.step_count-in-Ok.result tape_room b))) (sym bytes) in
           answers-from_either g.S.Sink.holds g.S.Sink.faults c.args.sink.now c.run_tape_file.new.sink (with_tape_name held (step_count words) model (tape_of words)) outcome c.run_tape_file.result found c.run_tape_file.ensures;
       nothing = nothing-from_either g.S.Sink.holds g.S.Sink.faults c.args.sink.now c.run_tape_file.new.sink outcome c.run_tape_file.result c.run_tape_file.ensures;
       cause = tape_cause-from_either g.S.Sink.holds g.S.Sink.faults c.args.sink.now c.run_tape_file.new.sink (tape_of words) outcome c.run_tape_file.result
