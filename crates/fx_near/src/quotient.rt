@@ -9,7 +9,7 @@ ghost use Rattle.fx_near.specs.Widths as spec;
 
 use crate::band::{Near, narrow_radius, raised, stretched};
 use fx_num::{Number, Over, narrow_within};
-use fx_whole::{difference, nearest, product, scaled};
+use fx_whole::{difference, nearest, product, scale_up};
 
 /// How far `mid` may be off from `whole / b`, where the numerator `whole` may be off by `ra 2^shift` and
 /// `b` by `rb`: `(ra 2^shift + |mid| rb + |whole - mid b|) / (b - rb)` rounded up.
@@ -32,7 +32,7 @@ pub(crate) fn widen<const F: u32>(a: &Near<F>) -> i128
     ensures value { result ≡ a.now.mid *ℤ pos (2 ^ F) }
     ensures size { unsigned_abs result ≤ 2 ^ 103 }
 {
-    scaled(a.mid, F)
+    scale_up(a.mid, F)
 }
 
 /// `a / b` rounded to the nearest number, a tie to the one nearer to zero, for `b` above zero in all

@@ -9,7 +9,7 @@ ghost use Rattle.fx_vec.specs.Views.{mids};
 use crate::dot::dot_into;
 use crate::vector::{V3, Vector3};
 use fx_num::{Fix, Number, Plain, none};
-use fx_whole::{narrow, nearest_shift, product, scaled, sum};
+use fx_whole::{narrow, nearest_shift, product, scale_up, sum};
 
 /// `a + b`.
 fn add_one<const F: u32>(a: &Fix<F>, b: &Fix<F>) -> Fix<F>
@@ -95,7 +95,7 @@ fn widen(c: &Fix<32>) -> i128
     ensures value { result ≡ c.now.mid *ℤ pos (2 ^ 32) }
     ensures size { unsigned_abs result ≤ 2 ^ 93 }
 {
-    scaled(c.mid, 32)
+    scale_up(c.mid, 32)
 }
 
 /// `n k`, rounded.

@@ -47,7 +47,7 @@ pub fn add_product(total: i128, a: i64, b: i64) -> i128
 }
 
 /// The negative, of every i128 but the least.
-pub fn negated(n: i128) -> i128
+pub fn negate(n: i128) -> i128
     requires { unsigned_abs n < 2 ^ 127 }
     ensures value { result ≡ neg_ℤ n }
     ensures size { unsigned_abs result ≡ unsigned_abs n }
@@ -89,16 +89,16 @@ pub fn power(shift: u32) -> i128
 }
 
 /// `n * 2^shift`, which always fits.
-pub fn scaled(n: i64, shift: u32) -> i128
+pub fn scale_up(n: i64, shift: u32) -> i128
     requires { shift ≤ 63 }
     ensures value { result ≡ n *ℤ pos (2 ^ shift) }
     ensures size { unsigned_abs result ≡ unsigned_abs n * 2 ^ shift }
 {
-    wide_scaled(i128::from(n), shift)
+    scale_up_wide(i128::from(n), shift)
 }
 
 /// `n * 2^shift`, where the caller shows that it fits.
-pub fn wide_scaled(n: i128, shift: u32) -> i128
+pub fn scale_up_wide(n: i128, shift: u32) -> i128
     requires in_width { shift ≤ 126 }
     requires fits { unsigned_abs n * 2 ^ shift < 2 ^ 127 }
     ensures value { result ≡ n *ℤ pos (2 ^ shift) }

@@ -9,8 +9,8 @@ pub mod rounding;
 mod tests;
 
 pub use arithmetic::{
-    add_product, difference, is_within, narrow, negated, power, product, scaled, size, sum,
-    wide_product, wide_scaled,
+    add_product, difference, is_within, narrow, negate, power, product, scale_up, scale_up_wide,
+    size, sum, wide_product,
 };
 pub use reciprocal::{Divisor, nearest_by};
 pub use roots::isqrt;

@@ -1,7 +1,7 @@
 // Expected values are worked by hand.
 use crate::{
     Divisor, add_product, difference, is_within, isqrt, narrow, nearest, nearest_by, nearest_shift,
-    negated, power, product, scaled, size, sum, wide_product, wide_scaled,
+    negate, power, product, scale_up, scale_up_wide, size, sum, wide_product,
 };
 
 #[test]
@@ -75,12 +75,12 @@ fn computes(rt: HostRuntime) {
     assert_eq!(rt; sum(2, -5), -3);
     assert_eq!(rt; add_product(100, 7, -8), 44);
     assert_eq!(rt; difference(2, -5), 7);
-    assert_eq!(rt; negated(7), -7);
+    assert_eq!(rt; negate(7), -7);
     assert_eq!(rt; narrow(-9), -9);
     assert!(rt; is_within(-9, 9));
     assert!(rt; !is_within(i128::MIN, 9));
     assert_eq!(rt; size(-9), 9);
     assert_eq!(rt; power(126), 1 << 126);
-    assert_eq!(rt; scaled(-3, 4), -48);
-    assert_eq!(rt; wide_scaled(3, 4), 48);
+    assert_eq!(rt; scale_up(-3, 4), -48);
+    assert_eq!(rt; scale_up_wide(3, 4), 48);
 }

@@ -8,7 +8,7 @@ use itoa::Buffer;
 use std::marker::Model;
 
 /// How many bytes a page holds.
-pub const PAGE_SIZE: usize = 4096;
+pub const PAGE_SIZE: usize = 65536;
 
 /// A fixed buffer of `PAGE_SIZE` bytes through which texts go out to a sink, and whether the writing
 /// still goes on: it stops at the first write that fails, and nothing is written after. It takes no

@@ -285,10 +285,10 @@ fn send_long(sink: &mut MemSink, piece: &[u8]) -> bool {
 
 #[test]
 fn a_long_piece_goes_out_whole_or_a_prefix_of_it(rt: HostRuntime) -> Result<(), Fail> {
-    let piece = vec![in rt.alloc(); b'y'; 10_000]?;
-    for (fail, is_whole, length, faults) in [(0, true, 10_004, 0), (5, false, 3_003, 1)] {
+    let piece = vec![in rt.alloc(); b'y'; 100_000]?;
+    for (fail, is_whole, length, faults) in [(0, true, 100_004, 0), (5, false, 3_003, 1)] {
         let fails = Vec::from_slice(rt.alloc(), &[fail])?;
-        let mut sink = MemSink::new(rt.alloc(), 20_000, fails, 1_000)?;
+        let mut sink = MemSink::new(rt.alloc(), 200_000, fails, 1_000)?;
         let all = send_long(&mut sink, piece.as_slice());
         assert_eq!(rt; all, is_whole);
         assert_eq!(rt; sink.held().len(), length);

@@ -7,6 +7,6 @@ use Rattle.fx_near.proofs.quotient.widen.Goals as goal
 pub returns-clause-size : goal.returns-clause-size
 returns-clause-size g c =
     let a : SFits w64 c.args.a.now.mid = search rules in
-    let r : SFits w128 c.scaled.result = search rules in
-    let s = simp to_z-of_z at c.scaled.ensures.size in
-    rw to_z-of_z (scaled_small c.args.a.now.mid c.scaled.result g.row.F a c.requires s)
+    let r : SFits w128 c.scale_up.result = search rules in
+    let s = simp to_z-of_z at c.scale_up.ensures.size in
+    rw to_z-of_z (scaled_small c.args.a.now.mid c.scale_up.result g.row.F a c.requires s)
