@@ -10,9 +10,9 @@ use Rattle.mj_optimum.proofs.BoundLaws.{shortfall_nonneg, left_to_nonneg}
 use Rattle.mj_types.specs.declared.dual.Dual.{Dual}
 use Rattle.mj_types.specs.declared.dual.Forces.{Forces}
 use Rattle.mj_types.specs.declared.range.Quantity.TheVariants as kind
-use Rattle.mj_types.specs.Problems.{problem, forces}
+use Rattle.mj_types.specs.Problems.{problem, forces, place}
 use Rattle.mj_types.specs.Solved.{IsSolved}
-use Rattle.mj_cert.specs.Certificate.{place_of, shortfall_out}
+use Rattle.mj_cert.specs.Certificate.{shortfall_out}
 use Rattle.mj_cert.proofs.SolvedLaws.{regular}
 
 pub row-nonneg : (d : Dual) (x : Forces) (i : ℕ) → IsSolved d x → i < d.m → pos 0 ≤ℤ shortfall (problem d) (forces x) i
@@ -23,9 +23,9 @@ so_far-nonneg d x n s l = sum_to-nonneg n (shortfall (problem d) (forces x)) (λ
 
 -- a row whose shortfall alone passes the limit
 pub passes : (d : Dual) (x : Forces) (i : ℕ) → IsSolved d x → i < d.m → (shortfall (problem d) (forces x) i ≤ℤ pos (2 ^ 124) → ⊥)
-    → Some (record { kind = kind.Shortfall; index = place_of d i }) ≡ shortfall_out d x i
+    → Some (record { kind = kind.Shortfall; index = place d i }) ≡ shortfall_out d x i
 passes d x i s q over =
-    sym (cond-false (nat_le (unsigned_abs (shortfall_to (problem d) (forces x) (suc i))) (2 ^ 124)) None (Some (record { kind = kind.Shortfall; index = place_of d i })) (past (shortfall_to (problem d) (forces x) i) (shortfall (problem d) (forces x) i) (so_far-nonneg d x i s (omega arith)) over))
+    sym (cond-false (nat_le (unsigned_abs (shortfall_to (problem d) (forces x) (suc i))) (2 ^ 124)) None (Some (record { kind = kind.Shortfall; index = place d i })) (past (shortfall_to (problem d) (forces x) i) (shortfall (problem d) (forces x) i) (so_far-nonneg d x i s (omega arith)) over))
   where
     beyond : (a b : ℤ) → pos 0 ≤ℤ a → (b ≤ℤ pos (2 ^ 124) → ⊥) → 2 ^ 124 < unsigned_abs (a +ℤ b)
     beyond a b h o = by_lt_z (pos (2 ^ 124)) b (λ l. omega (arith, ints)) (λ l. absurd (o l))

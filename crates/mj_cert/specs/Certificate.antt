@@ -1,5 +1,5 @@
 -- The numbers of a certificate, and the first of them that is out of its range. The certificate is this project's own.
-use Rattle.std.specs.Prelude.{◌≡◌, ℕ, suc, ◌<◌, pos, Option, slice_index_or}
+use Rattle.std.specs.Prelude.{◌≡◌, ℕ, suc, ◌<◌, pos, Option}
 use Rattle.fx_whole.specs.First.{or_first, first_to}
 use Rattle.mj_optimum.specs.Cost.{cost}
 use Rattle.mj_optimum.specs.Shortfall.{bound2}
@@ -11,23 +11,19 @@ use Rattle.mj_types.specs.declared.dual.Cert.{Cert}
 use Rattle.mj_types.specs.declared.range.OutOfRange.{OutOfRange}
 use Rattle.mj_types.specs.declared.range.Quantity.TheVariants as kind
 use Rattle.mj_types.specs.Parts.{number_at}
-use Rattle.mj_types.specs.Problems.{problem, forces}
+use Rattle.mj_types.specs.Problems.{problem, forces, place}
 use Rattle.mj_types.specs.Ranges.{limited}
-
--- the number of row i in the list of rows
-abbrev pub place_of : Dual → ℕ → ℕ
-place_of d i = slice_index_or d.place i 0
 
 -- of row i: the sum of the shortfalls so far
 abbrev pub shortfall_out : Dual → Forces → ℕ → Option OutOfRange
-shortfall_out d x i = limited kind.Shortfall (place_of d i) shortfall_limit (shortfall_to (problem d) (forces x) (suc i))
+shortfall_out d x i = limited kind.Shortfall (place d i) shortfall_limit (shortfall_to (problem d) (forces x) (suc i))
 
 -- how far the box goes up, and then down, where no bound ends it
 abbrev pub box_out : Dual → Forces → ℕ → Option OutOfRange
 box_out d x i =
     or_first
-    (limited kind.Box (place_of d i) box_limit (pos (where_open ((problem d).high i) (rise_up (problem d) (forces x) i))))
-    (limited kind.Box (place_of d i) box_limit (pos (where_open ((problem d).low i) (rise_down (problem d) (forces x) i))))
+    (limited kind.Box (place d i) box_limit (pos (where_open ((problem d).high i) (rise_up (problem d) (forces x) i))))
+    (limited kind.Box (place d i) box_limit (pos (where_open ((problem d).low i) (rise_down (problem d) (forces x) i))))
 
 -- all shortfalls, and then the box
 abbrev pub certificate_out : Dual → Forces → Option OutOfRange

@@ -2,7 +2,7 @@
 ghost use Rattle.std.specs.Prelude.{◌≡◌, ◌+◌, ◌*◌, ◌^◌, ◌<◌, ◌≤◌, ◌+ℤ◌, ◌-ℤ◌, ◌*ℤ◌, pos, unsigned_abs};
 
 use fx_num::{Fix, Wide};
-use fx_whole::{add_product, difference, product, scaled, sum, wide_product, wide_scaled};
+use fx_whole::{add_product, difference, product, scale_up, scale_up_wide, sum, wide_product};
 
 /// `a + b`.
 pub fn plus<const P: u32>(a: &Wide<P>, b: &Wide<P>) -> Wide<P>
@@ -63,7 +63,7 @@ pub fn raise(b: &Fix<32>) -> Wide<68>
     ensures { result.raw ≡ pos (2 ^ 36) *ℤ b.now.mid }
 {
     Wide {
-        raw: scaled(b.mid, 36),
+        raw: scale_up(b.mid, 36),
     }
 }
 
@@ -73,6 +73,6 @@ pub fn double(pull: &Wide<52>) -> Wide<88>
     ensures { result.raw ≡ pos (2 ^ 37) *ℤ pull.now.raw }
 {
     Wide {
-        raw: wide_scaled(pull.raw, 37),
+        raw: scale_up_wide(pull.raw, 37),
     }
 }

@@ -11,6 +11,7 @@
 -- SolveLaws, of `back` and `forth` (specs/Solves): back_is *, forth_is *, sums over the rows from p on
 -- ScatterLaws, of a number that is added to the sums of the dofs above its dof;  GatherLaws, of a sum over the dofs above a dof
 -- BackLaws, of `IsBackTo`: back_begins, back_here, back_more
+-- ReadLaws: a factor, a solve and a residual read what stands below n alone
 -- ResidualLaws: sums of a row of a mass matrix fit
 pub mod BackLaws
 pub mod FactorLaws
@@ -18,6 +19,7 @@ pub mod GatherLaws
 pub mod MakingLaws
 pub mod NumberLaws
 pub mod PlaceLaws
+pub mod ReadLaws
 pub mod RangeLaws
 pub mod ResidualLaws
 pub mod RowLaws

@@ -19,7 +19,8 @@ use Rattle.mj_types.specs.FactorRooms.{FactorRoom}
 use Rattle.mj_types.specs.Forests.{above_in}
 use Rattle.mj_types.specs.Parts.{number_at, plain}
 use Rattle.mj_factor.specs.Factors.{work, lower, pivot, entry_fault}
-use Rattle.mj_factor.specs.Stored.{mass_at, IsMass, IsFactor, entry, less, quotient, row_term, work_there, lower_there, SmallFrom, HasRows}
+use Rattle.mj_types.specs.Masses.{mass_at, IsMass}
+use Rattle.mj_factor.specs.Stored.{IsFactor, entry, less, quotient, row_term, work_there, lower_there, SmallFrom, HasRows}
 use Rattle.mj_factor.proofs.FactorLaws.{work_is, work_apart, lower_apart, entry_apart, sum_is_stored}
 use Rattle.mj_factor.proofs.PlaceLaws.{forest_in}
 use Rattle.mj_factor.proofs.RangeLaws.{entry_within}

@@ -12,18 +12,9 @@ use Rattle.mj_types.specs.declared.model.Model.{Model}
 use Rattle.mj_types.specs.Duals.{wide_at}
 use Rattle.mj_types.specs.FactorRooms.{FactorRoom}
 use Rattle.mj_types.specs.Forests.{above_in}
+use Rattle.mj_types.specs.Masses.{mass_at}
 use Rattle.mj_types.specs.Parts.{number_at}
 use Rattle.mj_factor.specs.Factors.{work, lower, pivot}
-
--- row i and column j of a matrix of width n that is kept row after row
-abbrev pub mass_at : ℕ → List (Number ℕ 40) → ℕ → ℕ → ℤ
-mass_at n xs i j = (slice_index_or xs (i * n + j) (record { mid = pos 0; rad = 0 })).mid
-
--- a mass matrix of a model: an entry is 0 where no dof of the two is above the other
-pub record IsMass (m : Model) (x : Mass) : Type 0 where
-  pub room : length x.m ≡ m.nv * m.nv
-  pub limit : (i j : ℕ) → i < m.nv → j < m.nv → unsigned_abs (mass_at m.nv x.m i j) ≤ 2 ^ 60
-  pub apart : (k i : ℕ) → k < m.nv → i < k → above_in m i k ≡ false → mass_at m.nv x.m k i ≡ pos 0
 
 -- row k and column i of listed entries: at the place of k's list that names i; 0 where i isn't above k
 abbrev pub entry : {F : ℕ} → (ℕ → ℕ → Bool) → List (Number (Unit {0}) F) → ℕ → ℕ → ℤ

@@ -6,6 +6,7 @@ ghost use Rattle.mj_tree.specs.Listing.{height, start};
 ghost use Rattle.mj_types.specs.Duals.{wide_at};
 ghost use Rattle.mj_types.specs.FactorRooms.{FactorRoom};
 ghost use Rattle.mj_types.specs.Forests.{above_in};
+ghost use Rattle.mj_types.specs.Masses as masses;
 ghost use Rattle.mj_types.specs.Parts.{number_at};
 ghost use Rattle.mj_factor.specs.Factors.{work, lower, pivot, pivot_fault, entry_fault, row_fault, factor_fault};
 ghost use Rattle.mj_factor.specs.Stored as spec;
@@ -145,7 +146,7 @@ fn write_entry(
     by: &Divisor,
     out: &mut Factor,
 ) -> Result<(), OutOfRange>
-    requires mass { spec.IsMass model.now mass.now }
+    requires mass { masses.IsMass model.now mass.now }
     requires room { FactorRoom model.now out.old }
     requires dof { k < model.now.nv }
     requires place { c < height (above_in model.now) k }
@@ -183,7 +184,7 @@ fn write_entries(
     by: &Divisor,
     out: &mut Factor,
 ) -> Result<(), OutOfRange>
-    requires mass { spec.IsMass model.now mass.now }
+    requires mass { masses.IsMass model.now mass.now }
     requires room { FactorRoom model.now out.old }
     requires dof { k < model.now.nv }
     requires width { length sums.now ≡ 65 }
@@ -213,14 +214,14 @@ fn write_entries(
 
 // Makes row `k`, where the later rows are made.
 fn factor_row(model: &Model, mass: &Mass, k: usize, out: &mut Factor) -> Result<(), OutOfRange>
-    requires mass { spec.IsMass model.now mass.now }
+    requires mass { masses.IsMass model.now mass.now }
     requires room { FactorRoom model.now out.old }
     requires dof { k < model.now.nv }
     requires rows { spec.HasRows model.now mass.now (k + 1) out.old }
     ensures room { FactorRoom model.now out.new }
     ensures rows { OnOk result (spec.HasRows model.now mass.now k out.new) }
     ensures first { refusal_of result
-        ≡ row_fault model.now.nv (spec.mass_at model.now.nv mass.now.m) k }
+        ≡ row_fault model.now.nv (masses.mass_at model.now.nv mass.now.m) k }
 {
     let mut sums = no_sums();
     add_rows(model, out, k, &mut sums);
@@ -236,20 +237,20 @@ fn factor_row(model: &Model, mass: &Mass, k: usize, out: &mut Factor) -> Result<
 /// scale 40. Each sum is exact and is rounded once. Pivot where a pivot leaves 2^10 to 2^60, Lower
 /// where a number of `W` passes 2^60 or one of `L` passes 2^48; rows are made from the last dof.
 pub fn factor(model: &Model, mass: &Mass, out: &mut Factor) -> Result<(), OutOfRange>
-    requires mass { spec.IsMass model.now mass.now }
+    requires mass { masses.IsMass model.now mass.now }
     requires room { FactorRoom model.now out.old }
     ensures room { FactorRoom model.now out.new }
     ensures first { refusal_of result
-        ≡ factor_fault model.now.nv (spec.mass_at model.now.nv mass.now.m) }
+        ≡ factor_fault model.now.nv (masses.mass_at model.now.nv mass.now.m) }
     ensures ranges { OnOk result (spec.IsFactor model.now out.new) }
     ensures pivots { OnOk result ((k : ℕ) → k < model.now.nv → number_at out.new.d k
-        ≡ pivot model.now.nv (spec.mass_at model.now.nv mass.now.m) k) }
+        ≡ pivot model.now.nv (masses.mass_at model.now.nv mass.now.m) k) }
     ensures works { OnOk result ((k i : ℕ) → k < model.now.nv → i < k
         → spec.entry (above_in model.now) out.new.w k i
-        ≡ work model.now.nv (spec.mass_at model.now.nv mass.now.m) k i) }
+        ≡ work model.now.nv (masses.mass_at model.now.nv mass.now.m) k i) }
     ensures lowers { OnOk result ((k i : ℕ) → k < model.now.nv → i < k
         → spec.entry (above_in model.now) out.new.l k i
-        ≡ lower model.now.nv (spec.mass_at model.now.nv mass.now.m) k i) }
+        ≡ lower model.now.nv (masses.mass_at model.now.nv mass.now.m) k i) }
 {
     for s in 0..model.nv {
         factor_row(model, mass, model.nv - 1 - s, out)?;

@@ -4,12 +4,13 @@ ghost use Rattle.fx_whole.specs.First.{refusal_of};
 ghost use Rattle.fx_whole.specs.Nearest.{nearest as nearest_lem};
 ghost use Rattle.mj_types.specs.Duals.{wide_at};
 ghost use Rattle.mj_types.specs.Ranges.{limited};
+ghost use Rattle.mj_types.specs.Masses as masses;
 ghost use Rattle.mj_factor.specs.Solves.{reduced};
 ghost use Rattle.mj_factor.specs.Stored as spec;
 
 use fx_num::{Fix, Number, Wide, narrow_within};
 use fx_whole::{
-    Divisor, add_product, difference, isqrt, nearest, nearest_by, nearest_shift, scaled,
+    Divisor, add_product, difference, isqrt, nearest, nearest_by, nearest_shift, scale_up,
 };
 use mj_types::{Mass, OutOfRange, Quantity};
 
@@ -42,7 +43,7 @@ pub(crate) fn mass_of(mass: &Mass, n: usize, i: usize, j: usize) -> Fix<40>
     requires room { length mass.now.m ≡ n * n }
     requires row { i < n }
     requires column { j < n }
-    ensures { result.mid ≡ spec.mass_at n mass.now.m i j }
+    ensures { result.mid ≡ masses.mass_at n mass.now.m i j }
 {
     Number {
         mid: mass.m.entry(i * n + j).mid,
@@ -75,7 +76,7 @@ pub(crate) fn quotient(w: &Fix<40>, by: &Divisor) -> Wide<32>
     ensures { result.raw ≡ spec.quotient w.now.mid by.now.d }
 {
     Wide {
-        raw: nearest_by(scaled(w.mid, 32), by),
+        raw: nearest_by(scale_up(w.mid, 32), by),
     }
 }
 
@@ -85,7 +86,7 @@ pub(crate) fn over_pivot(y: &Fix<32>, d: &Fix<40>) -> Wide<32>
     ensures { result.raw ≡ nearest_lem (y.now.mid *ℤ pos (2 ^ 40)) d.now.mid }
 {
     Wide {
-        raw: nearest(scaled(y.mid, 40), i128::from(d.mid)),
+        raw: nearest(scale_up(y.mid, 40), i128::from(d.mid)),
     }
 }
 
@@ -98,7 +99,7 @@ pub(crate) fn over_root(y: &Fix<32>, d: &Fix<40>) -> Wide<24>
         return Wide { raw: 0 };
     }
     Wide {
-        raw: nearest(scaled(y.mid, 24), isqrt(scaled(d.mid, 24))),
+        raw: nearest(scale_up(y.mid, 24), isqrt(scale_up(d.mid, 24))),
     }
 }
 

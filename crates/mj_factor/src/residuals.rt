@@ -2,12 +2,12 @@
 ghost use Rattle.std.specs.Prelude.{◌≡◌, ℕ, pos, ◌*◌, ◌^◌, ◌<◌, ◌≤◌, ◌*ℤ◌, unsigned_abs, length};
 ghost use Rattle.fx_whole.specs.Sums.{sum_to};
 ghost use Rattle.mj_types.specs.Parts.{number_at};
-ghost use Rattle.mj_factor.specs.Stored.{mass_at};
+ghost use Rattle.mj_types.specs.Masses.{mass_at};
 ghost use Rattle.mj_factor.specs.Residuals as spec;
 
 use crate::numbers::{mass_of, plus_product};
 use fx_num::{Fix, Wide};
-use fx_whole::{difference, scaled};
+use fx_whole::{difference, scale_up};
 use mj_types::Mass;
 
 // Row `i` of the mass matrix times `a`.
@@ -43,7 +43,7 @@ fn residual_of(mass: &Mass, a: &[Fix<32>], rhs: &[Fix<32>], i: usize) -> u128
     ensures small { result < 2 ^ 127 }
 {
     let product = row_times(mass, a, i);
-    difference(product.raw, scaled(rhs[i].mid, 40)).unsigned_abs()
+    difference(product.raw, scale_up(rhs[i].mid, 40)).unsigned_abs()
 }
 
 /// The largest `|M a - rhs|` of a row, at scale 72.

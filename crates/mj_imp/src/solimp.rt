@@ -6,7 +6,7 @@ ghost use Rattle.mj_types.specs.Lawful.{IsImpedance, IsSoft};
 ghost use Rattle.mj_imp.specs.Impedance as spec;
 
 use fx_num::Fix;
-use fx_whole::{narrow, nearest, nearest_shift, product, scaled};
+use fx_whole::{narrow, nearest, nearest_shift, product, scale_up};
 use mj_types::Soft;
 
 // 1 at scale 32.
@@ -29,7 +29,7 @@ fn share(a: &Fix<32>, b: &Fix<32>) -> Fix<32>
     ensures low { pos 0 ≤ℤ result.mid }
     ensures high { result.mid ≤ℤ spec.one }
 {
-    Fix::from_raw(narrow(nearest(scaled(a.mid, 32), i128::from(b.mid))))
+    Fix::from_raw(narrow(nearest(scale_up(a.mid, 32), i128::from(b.mid))))
 }
 
 // The share `q` of `a`, which is at most 1.
@@ -101,7 +101,7 @@ fn depth(width: &Fix<32>, r: &Fix<32>) -> Fix<32>
     ensures low { pos 0 ≤ℤ result.mid }
     ensures high { result.mid ≤ℤ spec.one }
 {
-    at_most_one(&nearest(scaled(size(r).mid, 32), i128::from(width.mid)))
+    at_most_one(&nearest(scale_up(size(r).mid, 32), i128::from(width.mid)))
 }
 
 // The sigmoid below the midpoint.

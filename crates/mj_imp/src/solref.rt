@@ -9,7 +9,7 @@ ghost use Rattle.mj_imp.specs.Reference as spec;
 
 use crate::solimp::settled;
 use fx_num::{Fix, Over, div_nearest, narrow_within, times};
-use fx_whole::{difference, nearest_shift, negated, product, scaled, wide_product};
+use fx_whole::{difference, nearest_shift, negate, product, scale_up, wide_product};
 use mj_types::Soft;
 
 // Whether solref is a time constant and a damping ratio.
@@ -100,7 +100,7 @@ fn over_dmax(x: &Fix<32>, soft: &Soft, limit: i64) -> Result<Fix<32>, Over>
     ensures first { refusal_of result
         ≡ over_value (unsigned_abs limit) (share.over x.now.mid soft.now.dmax.mid) }
 {
-    quotient(&scaled(x.mid, 32), &i128::from(soft.dmax.mid), limit)
+    quotient(&scale_up(x.mid, 32), &i128::from(soft.dmax.mid), limit)
 }
 
 // `-x`.
@@ -174,7 +174,7 @@ fn braking(b: &Fix<32>, jv: &Fix<32>) -> i128
     ensures value { result ≡ neg_ℤ (share.times b.now.mid jv.now.mid) }
     ensures size { unsigned_abs result ≤ 2 ^ 126 }
 {
-    negated(nearest_shift(product(b.mid, jv.mid), 32))
+    negate(nearest_shift(product(b.mid, jv.mid), 32))
 }
 
 // `-b jv - pull`, where it is within the limit.

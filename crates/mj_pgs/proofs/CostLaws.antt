@@ -13,9 +13,9 @@ use Rattle.mj_types.specs.declared.dual.Forces.{Forces}
 use Rattle.mj_types.specs.declared.range.OutOfRange.{OutOfRange}
 use Rattle.mj_types.specs.declared.range.Quantity.{Quantity}
 use Rattle.mj_types.specs.declared.range.Quantity.TheVariants as kind
-use Rattle.mj_types.specs.Problems.{problem, forces}
+use Rattle.mj_types.specs.Problems.{problem, forces, place}
 use Rattle.mj_types.specs.Ranges.{limited, unless}
-use Rattle.mj_pgs.specs.Answer.{place, cost_fault}
+use Rattle.mj_pgs.specs.Answer.{cost_fault}
 use Rattle.mj_pgs.specs.Holding.{AreSums}
 
 pub record JudgedSoFar (d : Dual) (x : Forces) (n w t : ℕ) : Type 0 where

@@ -20,9 +20,9 @@ use Rattle.mj_optimum.proofs.Tests.{int_le_true, int_le_from}
 use Rattle.mj_types.specs.declared.dual.Dual.{Dual}
 use Rattle.mj_types.specs.declared.dual.Forces.{Forces}
 use Rattle.mj_types.specs.declared.range.OutOfRange.{OutOfRange}
-use Rattle.mj_types.specs.Problems.{problem, forces}
+use Rattle.mj_types.specs.Problems.{problem, forces, place}
 use Rattle.mj_types.specs.Solved.{IsSolved}
-use Rattle.mj_pgs.specs.Answer.{place, sweep_fault, refused, stopped, ending, or_end, answer}
+use Rattle.mj_pgs.specs.Answer.{sweep_fault, refused, stopped, ending, or_end, answer}
 use Rattle.mj_pgs.specs.Holding.{HaveSamePlaces, IsHeld}
 use Rattle.mj_pgs.proofs.SweepLaws.{holds_zero, same-places}
 

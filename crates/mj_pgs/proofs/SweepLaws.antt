@@ -16,9 +16,9 @@ use Rattle.mj_optimum.proofs.LimitLaws.{cost_at_least}
 use Rattle.mj_optimum.proofs.SweepLaws as law
 use Rattle.mj_types.specs.declared.dual.Dual.{Dual}
 use Rattle.mj_types.specs.declared.dual.Forces.{Forces}
-use Rattle.mj_types.specs.Problems.{problem, forces}
+use Rattle.mj_types.specs.Problems.{problem, forces, place}
 use Rattle.mj_types.specs.Solved.{IsSolved}
-use Rattle.mj_pgs.specs.Answer.{place, row_fault}
+use Rattle.mj_pgs.specs.Answer.{row_fault}
 use Rattle.mj_pgs.proofs.BoundLaws.{zero_above, zero_below}
 use Rattle.mj_pgs.specs.Holding.{HaveSamePlaces, IsHeld, change_at}
 

@@ -1,5 +1,5 @@
 -- What a solver answers: how its sweeps end, which is at a stop or at the first number past its limit. MuJoCo documentation, Computation chapter (PGS); the limits are this project's own.
-use Rattle.std.specs.Prelude.{ℕ, ◌+◌, ◌==◌, ℤ, pos, cond, Option, Some, None, Result, Ok, Err, slice_index_or}
+use Rattle.std.specs.Prelude.{ℕ, ◌+◌, ◌==◌, ℤ, pos, cond, Option, Some, None, Result, Ok, Err}
 use Rattle.fx_whole.specs.First.{or_first, first_to}
 use Rattle.mj_optimum.specs.Problem.{Problem}
 use Rattle.mj_optimum.specs.Cost.{reach}
@@ -8,14 +8,9 @@ use Rattle.mj_optimum.specs.Limits.{force_limit, reach_limit, cost_limit, weight
 use Rattle.mj_optimum.specs.Stop.{stop_after}
 use Rattle.mj_optimum.specs.declared.stop.Stop.{Stop}
 use Rattle.mj_optimum.specs.declared.stop.Stop.TheVariants.{NoRows, Limit}
-use Rattle.mj_types.specs.declared.dual.Dual.{Dual}
 use Rattle.mj_types.specs.declared.range.OutOfRange.{OutOfRange}
 use Rattle.mj_types.specs.declared.range.Quantity.TheVariants as kind
 use Rattle.mj_types.specs.Ranges.{limited}
-
--- the number of row i in the list of rows
-abbrev pub place : Dual → ℕ → ℕ
-place d i = slice_index_or d.place i 0
 
 -- ---- the first number past its limit; `place` numbers the rows
 -- in the update of row i: its force, then u

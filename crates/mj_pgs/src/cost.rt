@@ -2,6 +2,7 @@
 ghost use Rattle.std.specs.Prelude.{◌≡◌, ℕ, ◌+◌, ◌-◌, ◌*◌, ◌^◌, ◌<◌, ◌≤◌, min, unsigned_abs, IfOk};
 ghost use Rattle.fx_whole.specs.First.{first_to, or_first, refusal_of};
 ghost use Rattle.mj_optimum.specs.Limits.{cost_limit, weight_to, pull_to};
+ghost use Rattle.mj_types.specs.Problems as problems;
 ghost use Rattle.mj_types.specs.Problems.{problem, forces};
 ghost use Rattle.mj_types.specs.Ranges.{limited};
 ghost use Rattle.mj_pgs.specs.Answer as spec;
@@ -61,7 +62,7 @@ fn with_row(dual: &Dual, i: usize, out: &Forces, sums: Sums) -> Result<Sums, Out
     requires small { (i : ℕ) → i < dual.now.m → unsigned_abs (forces out.now i) ≤ 2 ^ 50 }
     requires sums { AreSums (problem dual.now) (forces out.now) i sums.weight sums.pull }
     ensures first { refusal_of result
-        ≡ spec.cost_fault (problem dual.now) (spec.place dual.now) (forces out.now) i }
+        ≡ spec.cost_fault (problem dual.now) (problems.place dual.now) (forces out.now) i }
     ensures sums { IfOk result (λ s.
         AreSums (problem dual.now) (forces out.now) (i + 1) s.weight s.pull) }
 {
@@ -79,7 +80,7 @@ pub(crate) fn judge(dual: &Dual, out: &Forces) -> Result<(), OutOfRange>
     requires places { HasPlaces dual.now out.now }
     requires small { (i : ℕ) → i < dual.now.m → unsigned_abs (forces out.now i) ≤ 2 ^ 50 }
     ensures first { refusal_of result ≡ first_to dual.now.m
-        (spec.cost_fault (problem dual.now) (spec.place dual.now) (forces out.now)) }
+        (spec.cost_fault (problem dual.now) (problems.place dual.now) (forces out.now)) }
     ensures weight { IfOk result (λ _.
         weight_to (problem dual.now) (forces out.now) dual.now.m ≤ cost_limit) }
     ensures pull { IfOk result (λ _.

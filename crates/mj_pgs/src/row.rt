@@ -10,6 +10,7 @@ ghost use Rattle.mj_optimum.specs.Limits.{force_limit, reach_limit};
 ghost use Rattle.mj_optimum.specs.Sweep as rule;
 ghost use Rattle.mj_types.specs.Duals.{bound, is_low, is_high};
 ghost use Rattle.mj_types.specs.Parts.{number_at};
+ghost use Rattle.mj_types.specs.Problems as problems;
 ghost use Rattle.mj_types.specs.Problems.{problem, forces};
 ghost use Rattle.mj_types.specs.Ranges.{limited};
 ghost use Rattle.mj_pgs.specs.Answer as spec;
@@ -18,7 +19,7 @@ ghost use Rattle.mj_pgs.specs.Holding.{IsHeld, HaveSamePlaces, change_at};
 use crate::shift::shift;
 use fx_num::{Fix, Number, Wide};
 use fx_whole::{
-    Divisor, add_product, is_within, narrow, nearest_by, negated, scaled, sum, wide_product,
+    Divisor, add_product, is_within, narrow, nearest_by, negate, scale_up, sum, wide_product,
 };
 use mj_types::{Dual, Forces, OutOfRange, Quantity};
 
@@ -101,7 +102,7 @@ fn stepped(f: Fix<20>, slope: Wide<68>, by: &Divisor) -> Wide<20>
     ensures { result.raw ≡ f.mid +ℤ nearest (neg_ℤ slope.raw) by.now.d }
 {
     Wide {
-        raw: sum(i128::from(f.mid), nearest_by(negated(slope.raw), by)),
+        raw: sum(i128::from(f.mid), nearest_by(negate(slope.raw), by)),
     }
 }
 
@@ -203,7 +204,7 @@ fn raised(b: Fix<32>) -> Wide<68>
     ensures size { unsigned_abs result.raw ≤ 2 ^ 92 }
 {
     Wide {
-        raw: scaled(b.mid, 36),
+        raw: scale_up(b.mid, 36),
     }
 }
 
@@ -247,7 +248,7 @@ fn next(
     requires force { f.mid ≡ forces out.now i }
     requires slope { slope.raw ≡ law.gradient (problem dual.now) (forces out.now) i }
     requires size { unsigned_abs slope.raw ≤ 2 ^ 123 }
-    ensures first { refusal_of result ≡ limited Quantity.Force (spec.place dual.now i) force_limit
+    ensures first { refusal_of result ≡ limited Quantity.Force (problems.place dual.now i) force_limit
         (rule.update (problem dual.now) (forces out.now) i) }
     ensures value { IfOk result (λ x. x.mid ≡ rule.update (problem dual.now) (forces out.now) i) }
     ensures small { IfOk result (λ x. unsigned_abs x.mid ≤ 2 ^ 50) }
@@ -306,7 +307,7 @@ pub(crate) fn update(dual: &Dual, i: usize, out: &mut Forces) -> Result<Wide<88>
     requires held { IsHeld dual.now out.old }
     ensures places { HaveSamePlaces out.old out.new }
     ensures first { refusal_of result
-        ≡ spec.row_fault (problem dual.now) (spec.place dual.now) (forces out.old) i }
+        ≡ spec.row_fault (problem dual.now) (problems.place dual.now) (forces out.old) i }
     ensures held { IfOk result (λ _. IsHeld dual.now out.new) }
     ensures forces { IfOk result (λ _.
         forces out.new ≡ rule.after_update (problem dual.now) (forces out.old) i) }

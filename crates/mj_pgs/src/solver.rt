@@ -3,6 +3,7 @@ ghost use Rattle.std.specs.Prelude.{◌≡◌, ℕ, suc, ◌^◌, ◌<◌, ◌�
 ghost use Rattle.mj_optimum.specs.Cost.{cost};
 ghost use Rattle.mj_optimum.specs.Stop.{stop_of, sweeps_of};
 ghost use Rattle.mj_optimum.specs.Sweep.{iterate};
+ghost use Rattle.mj_types.specs.Problems as problems;
 ghost use Rattle.mj_types.specs.Problems.{problem, forces};
 ghost use Rattle.mj_types.specs.Solved.{IsSolved};
 ghost use Rattle.mj_pgs.specs.Answer as spec;
@@ -11,14 +12,14 @@ ghost use Rattle.mj_pgs.specs.Holding.{HasPlaces, HaveSamePlaces};
 use crate::start::start;
 use crate::sweep::round;
 use fx_num::{Fix, Wide};
-use fx_whole::scaled;
+use fx_whole::scale_up;
 use mj_types::{Dual, Forces, OutOfRange, Stop};
 
 // Whether a fall of the cost is within the tolerance.
 fn is_within(fall: Wide<88>, tolerance: Fix<32>) -> bool
     ensures { IsTrue result ↔ (fall.raw ≤ℤ (tolerance.mid *ℤ pos (2 ^ 56))) }
 {
-    fall.raw <= scaled(tolerance.mid, 56)
+    fall.raw <= scale_up(tolerance.mid, 56)
 }
 
 // The sweeps of `solve`, whose further clauses follow from these.
@@ -31,7 +32,7 @@ fn run(
     requires places { HasPlaces dual.now out.old }
     ensures places { HaveSamePlaces out.old out.new }
     ensures answer { result
-        ≡ spec.answer (problem dual.now) (spec.place dual.now) tolerance.mid iterations }
+        ≡ spec.answer (problem dual.now) (problems.place dual.now) tolerance.mid iterations }
     ensures forces { IfOk result (λ stop.
         forces out.new ≡ iterate (problem dual.now) (sweeps_of stop)) }
     ensures solved { IfOk result (λ _. IsSolved dual.now out.new) }
@@ -65,7 +66,7 @@ pub fn solve(
     requires tolerance { pos 0 ≤ℤ tolerance.mid }
     ensures places { HaveSamePlaces out.old out.new }
     ensures answer { result
-        ≡ spec.answer (problem dual.now) (spec.place dual.now) tolerance.mid iterations }
+        ≡ spec.answer (problem dual.now) (problems.place dual.now) tolerance.mid iterations }
     ensures stop { IfOk result (λ stop. stop ≡ stop_of (problem dual.now) tolerance.mid iterations) }
     ensures forces { IfOk result (λ stop.
         forces out.new ≡ iterate (problem dual.now) (sweeps_of stop)) }

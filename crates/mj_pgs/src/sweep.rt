@@ -7,6 +7,7 @@ ghost use Rattle.fx_whole.specs.Sums.{sum_to};
 ghost use Rattle.mj_optimum.specs.Cost.{cost};
 ghost use Rattle.mj_optimum.specs.Feasible.{IsFeasible};
 ghost use Rattle.mj_optimum.specs.Sweep as rule;
+ghost use Rattle.mj_types.specs.Problems as problems;
 ghost use Rattle.mj_types.specs.Problems.{problem, forces};
 ghost use Rattle.mj_types.specs.Solved.{IsSolved};
 ghost use Rattle.mj_pgs.specs.Answer as spec;
@@ -39,7 +40,7 @@ fn sweep(dual: &Dual, out: &mut Forces) -> Result<Wide<88>, OutOfRange>
     requires held { IsHeld dual.now out.old }
     ensures places { HaveSamePlaces out.old out.new }
     ensures first { refusal_of result
-        ≡ spec.pass_fault (problem dual.now) (spec.place dual.now) (forces out.old) }
+        ≡ spec.pass_fault (problem dual.now) (problems.place dual.now) (forces out.old) }
     ensures held { IfOk result (λ _. IsHeld dual.now out.new) }
     ensures forces { IfOk result (λ _.
         forces out.new ≡ rule.sweep (problem dual.now) (forces out.old)) }
@@ -60,7 +61,7 @@ pub(crate) fn round(dual: &Dual, out: &mut Forces) -> Result<Wide<88>, OutOfRang
     requires cost { cost (problem dual.now) (forces out.old) (pos 1) ≤ℤ pos 0 }
     ensures places { HaveSamePlaces out.old out.new }
     ensures first { refusal_of result
-        ≡ spec.sweep_fault (problem dual.now) (spec.place dual.now) (forces out.old) }
+        ≡ spec.sweep_fault (problem dual.now) (problems.place dual.now) (forces out.old) }
     ensures held { IfOk result (λ _. IsHeld dual.now out.new) }
     ensures forces { IfOk result (λ _.
         forces out.new ≡ rule.sweep (problem dual.now) (forces out.old)) }

@@ -10,7 +10,7 @@ ghost use Rattle.mj_quat.specs.Rotation as spec;
 
 use fx_num::{Fix, Over, Plain, none};
 use fx_vec::{Q4, V3, Vector3, dot_into};
-use fx_whole::{isqrt, narrow, nearest, product, scaled, sum};
+use fx_whole::{isqrt, narrow, nearest, product, scale_up, sum};
 
 /// `n^2`.
 fn square(n: &Fix<32>) -> i128
@@ -87,7 +87,7 @@ fn over(n: &Fix<32>, length: &Fix<32>) -> Fix<32>
     ensures value { result.mid ≡ spec.over n.now.mid length.now.mid }
     ensures size { unsigned_abs result.mid ≤ 2 ^ 32 }
 {
-    Fix::from_raw(narrow(nearest(scaled(n.mid, 32), i128::from(length.mid))))
+    Fix::from_raw(narrow(nearest(scale_up(n.mid, 32), i128::from(length.mid))))
 }
 
 /// A quaternion over a length that none of its numbers passes, each number rounded once.

@@ -4,7 +4,7 @@ ghost use Rattle.fx_whole.specs.Nearest.{nearest};
 ghost use Rattle.mj_quat.specs.Sine as spec;
 
 use fx_num::Fix;
-use fx_whole::{difference, narrow, nearest_shift, product, scaled, size};
+use fx_whole::{difference, narrow, nearest_shift, product, scale_up, size};
 
 #[cfg(test)]
 mod tests;
@@ -42,7 +42,7 @@ fn left_past(angle: &i64, quarters: &i64) -> i128
     requires quarters { unsigned_abs quarters.now < 2 ^ 33 }
     ensures { result ≡ spec.fine angle.now -ℤ quarters.now *ℤ spec.quarter_turn }
 {
-    difference(scaled(*angle, 29), product(*quarters, QUARTER_TURN))
+    difference(scale_up(*angle, 29), product(*quarters, QUARTER_TURN))
 }
 
 /// Whether less than half of a quarter turn is left.
@@ -62,7 +62,7 @@ fn quarters(angle: &i64) -> i64
     if is_less_than_half(&left_past(angle, &guess)) {
         guess
     } else {
-        narrow(fx_whole::nearest(scaled(*angle, 29), i128::from(QUARTER_TURN)))
+        narrow(fx_whole::nearest(scale_up(*angle, 29), i128::from(QUARTER_TURN)))
     }
 }
 

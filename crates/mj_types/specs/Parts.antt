@@ -2,7 +2,9 @@
 use Rattle.std.specs.Prelude.{ℕ, zero, suc, ◌+◌, ◌==◌, ◌∷◌, cond, ℤ, pos, List, [], Option, Some, None, slice_index_or}
 use Rattle.fx_num.specs.declared.number.Number.{Number}
 use Rattle.fx_vec.specs.declared.vector.Vector3.{Vector3}
+use Rattle.fx_vec.specs.declared.vector.Vector6.{Vector6}
 use Rattle.fx_vec.specs.declared.vector.Q4.{Q4}
+use Rattle.fx_vec.specs.declared.inertia.Inertia10.{Inertia10}
 use Rattle.mj_types.specs.declared.parts.Soft.{Soft}
 use Rattle.mj_types.specs.declared.parts.Body.{Body}
 use Rattle.mj_types.specs.declared.parts.Joint.{Joint}
@@ -28,6 +30,12 @@ no_vector = record { x = plain (pos 0); y = plain (pos 0); z = plain (pos 0) }
 
 abbrev pub no_quaternion : Q4
 no_quaternion = record { w = plain (pos 0); x = plain (pos 0); y = plain (pos 0); z = plain (pos 0) }
+
+abbrev pub no_motion : {F : ℕ} → Vector6 (Unit {0}) F
+no_motion = record { ang = no_vector; lin = no_vector }
+
+abbrev pub no_inertia : Inertia10
+no_inertia = record { xx = pos 0; xy = pos 0; xz = pos 0; yy = pos 0; yz = pos 0; zz = pos 0; mx = pos 0; my = pos 0; mz = pos 0; mass = pos 0 }
 
 abbrev pub no_soft : Soft
 no_soft = record { tc = plain (pos 0); dr = plain (pos 0); dmin = plain (pos 0); dmax = plain (pos 0); width = plain (pos 0); mid = plain (pos 0); power = 0 }

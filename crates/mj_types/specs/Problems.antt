@@ -1,5 +1,5 @@
 -- The problem that a dual states, and the room of a dual, of forces and of a certificate.
-use Rattle.std.specs.Prelude.{◌≡◌, ℕ, ◌+◌, ◌*◌, ◌<◌, ◌≤◌, ℤ, length}
+use Rattle.std.specs.Prelude.{◌≡◌, ℕ, ◌+◌, ◌*◌, ◌<◌, ◌≤◌, ℤ, length, slice_index_or}
 use Rattle.mj_optimum.specs.Problem.{Problem}
 use Rattle.mj_types.specs.declared.dual.Dual.{Dual}
 use Rattle.mj_types.specs.declared.dual.Forces.{Forces}
@@ -9,6 +9,10 @@ use Rattle.mj_types.specs.Parts.{number_at}
 
 abbrev pub problem : Dual → Problem
 problem d = problem_of d.m d.nv d.g d.r d.b d.low d.high
+
+-- the number of row i in the list of rows
+abbrev pub place : Dual → ℕ → ℕ
+place d i = slice_index_or d.place i 0
 
 -- the raw forces of the rows
 abbrev pub forces : Forces → ℕ → ℤ

@@ -10,7 +10,6 @@ pub mod parts;
 pub mod range;
 mod room;
 pub mod rows;
-pub mod slide;
 pub mod state;
 pub mod status;
 pub mod tape;
@@ -29,7 +28,6 @@ pub use parts::{
 };
 pub use range::{End, OutOfRange, Quantity};
 pub use rows::{Row, Rows, Source, StepReport, Summary};
-pub use slide::SlideModel;
 pub use state::State;
 pub use status::{ModelCode, ModelFault, Path, Status};
-pub use tape::{SlideMotor, Tape, TapeFault};
+pub use tape::{Tape, TapeFault};

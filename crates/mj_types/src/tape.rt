@@ -1,18 +1,9 @@
-// Controls of a run: the motors that take them, and the tape that holds them step by step.
+// The controls of a run, step by step.
 ghost use Rattle.std.specs.Prelude.{◌≡◌};
 ghost use Rattle.mj_types.specs.Control.{FillsRows, AreSmall};
 
-use crate::parts::Range;
 use fx_list::Array;
 use fx_num::Fix;
-
-/// A motor on the slide joint: its force is the control, clamped to the range where there is one, times
-/// the gear.
-#[derive(Clone, Copy, Debug, PartialEq, Eq)]
-pub struct SlideMotor {
-    pub gear: Fix<32>,
-    pub ctrlrange: Option<Range>,
-}
 
 /// Why a tape is refused. Records and columns count from 1: the tape has more bytes or values than are
 /// taken; a record hasn't one field for each motor; a field is no control (its record and its column);

@@ -2,7 +2,8 @@ use Rattle.std.proofs.Common.{ℕ, ◌≡◌, ◌+◌, ◌-◌, refl, subst, ari
 use Rattle.std.proofs.lemmas.Result.{err_from_is_err_and}
 use Rattle.fx_whole.proofs.FirstLaws.{stop_here, pass_more}
 use Rattle.mj_factor.specs.Factors.{row_fault}
-use Rattle.mj_factor.specs.Stored.{mass_at, HasRows}
+use Rattle.mj_types.specs.Masses.{mass_at}
+use Rattle.mj_factor.specs.Stored.{HasRows}
 use Rattle.mj_factor.proofs.MakingLaws.{rows_begin, is_factor, works_are, lowers_are}
 use Rattle.mj_factor.proofs.factoring.factor.Goals as goal
 

@@ -2,7 +2,8 @@ use Rattle.std.proofs.Common.{◌≡◌, ◌-◌, None}
 use Rattle.fx_whole.specs.First.{first_to}
 use Rattle.mj_types.specs.FactorRooms.{FactorRoom}
 use Rattle.mj_factor.specs.Factors.{row_fault}
-use Rattle.mj_factor.specs.Stored.{mass_at, HasRows}
+use Rattle.mj_types.specs.Masses.{mass_at}
+use Rattle.mj_factor.specs.Stored.{HasRows}
 use Rattle.mj_factor.proofs.factoring.factor.Given as goal
 
 abbrev pub invariant-loop-s : goal.invariant-loop-s

@@ -1,7 +1,7 @@
 use Rattle.std.proofs.Common.{◌≡◌, ◌<◌, ◌^◌, length}
 use Rattle.mj_types.specs.Parts.{number_at}
 use Rattle.mj_factor.specs.Residuals.{greatest_to, residual_at}
-use Rattle.mj_factor.specs.Stored.{mass_at}
+use Rattle.mj_types.specs.Masses.{mass_at}
 use Rattle.mj_factor.proofs.residuals.residual.Given as goal
 
 abbrev pub invariant-loop-i : goal.invariant-loop-i

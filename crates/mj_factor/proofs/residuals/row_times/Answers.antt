@@ -1,7 +1,7 @@
 use Rattle.std.proofs.Common.{ℕ, ◌+ℤ◌, ◌*ℤ◌, unsigned_abs, length, ap₂, sym, ◌∙◌, arith}
 use Rattle.fx_whole.proofs.SumLaws.{sum_to-more}
 use Rattle.mj_types.specs.Parts.{number_at}
-use Rattle.mj_factor.specs.Stored.{mass_at}
+use Rattle.mj_types.specs.Masses.{mass_at}
 use Rattle.mj_factor.proofs.ResidualLaws.{row_small, row_fits}
 use Rattle.mj_factor.proofs.residuals.row_times.Goals as goal
 

@@ -1,7 +1,7 @@
 use Rattle.std.proofs.Common.{◌≡◌, ◌*ℤ◌, length}
 use Rattle.fx_whole.specs.Sums.{sum_to}
 use Rattle.mj_types.specs.Parts.{number_at}
-use Rattle.mj_factor.specs.Stored.{mass_at}
+use Rattle.mj_types.specs.Masses.{mass_at}
 use Rattle.mj_factor.proofs.residuals.row_times.Given as goal
 
 abbrev pub invariant-loop-j : goal.invariant-loop-j

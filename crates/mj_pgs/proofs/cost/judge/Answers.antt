@@ -1,8 +1,8 @@
 use Rattle.std.proofs.Common.{arith}
 use Rattle.std.proofs.lemmas.Result.{err_from_is_err_and}
 use Rattle.fx_whole.proofs.FirstLaws.{stop_here}
-use Rattle.mj_types.specs.Problems.{problem, forces}
-use Rattle.mj_pgs.specs.Answer.{place, cost_fault}
+use Rattle.mj_types.specs.Problems.{problem, forces, place}
+use Rattle.mj_pgs.specs.Answer.{cost_fault}
 use Rattle.mj_pgs.proofs.cost.judge.Goals as goal
 
 pub returns-in_err-sums-clause-first : goal.returns-in_err-sums-clause-first

@@ -1,7 +1,7 @@
 use Rattle.std.proofs.Common.{◌≡◌, None}
 use Rattle.fx_whole.specs.First.{first_to}
-use Rattle.mj_types.specs.Problems.{problem, forces}
-use Rattle.mj_pgs.specs.Answer.{place, cost_fault}
+use Rattle.mj_types.specs.Problems.{problem, forces, place}
+use Rattle.mj_pgs.specs.Answer.{cost_fault}
 use Rattle.mj_pgs.specs.Holding.{AreSums}
 use Rattle.mj_pgs.proofs.CostLaws.{JudgedSoFar}
 use Rattle.mj_pgs.proofs.cost.judge.Given as goal

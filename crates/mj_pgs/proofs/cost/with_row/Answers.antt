@@ -5,10 +5,10 @@ use Rattle.fx_whole.proofs.FirstLaws.{stop_first, pass_first}
 use Rattle.mj_optimum.specs.Limits.{cost_limit, weight_to, pull_to}
 use Rattle.mj_types.specs.Duals.{wide_at}
 use Rattle.mj_types.specs.Parts.{number_at, plain}
-use Rattle.mj_types.specs.Problems.{problem, forces}
+use Rattle.mj_types.specs.Problems.{problem, forces, place}
 use Rattle.mj_types.specs.Ranges.{limited, unless}
 use Rattle.mj_types.specs.declared.range.Quantity.TheVariants as kind
-use Rattle.mj_pgs.specs.Answer.{place, cost_fault}
+use Rattle.mj_pgs.specs.Answer.{cost_fault}
 use Rattle.mj_pgs.proofs.CostLaws.{weight-exact, weight-test, pull-exact, pull-test, unless-passed, within-limit, within-pull}
 use Rattle.mj_pgs.proofs.cost.with_row.Goals as goal
 

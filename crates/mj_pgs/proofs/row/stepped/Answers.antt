@@ -7,8 +7,8 @@ use Rattle.mj_pgs.proofs.row.stepped.Goals as goal
 pub sum-requires : goal.sum-requires
 sum-requires c =
     let s : SFits w128 c.args.slope.raw = search rules in
-    let n : SFits w128 c.negated.result = search rules in
+    let n : SFits w128 c.negate.result = search rules in
     let r : SFits w128 c.nearest_by.result = search rules in
-    let v = simp to_z-of_z at c.negated.ensures.value in
+    let v = simp to_z-of_z at c.negate.ensures.value in
     let f = simp to_z-of_z at c.nearest_by.ensures.formula in
     simp to_z-of_z (rw (f, v) (omega (arith, ints, nearest-size (neg_ℤ c.args.slope.raw) c.args.by.now.d, c.requires, c.from.ensures)))

@@ -7,11 +7,11 @@ use Rattle.fx_whole.proofs.FirstLaws.{stop_first, pass_first}
 use Rattle.mj_optimum.specs.Cost.{reach, gradient}
 use Rattle.mj_optimum.specs.Limits.{force_limit, reach_limit}
 use Rattle.mj_optimum.specs.Sweep.{change, divisor, update, put_at, after_update}
-use Rattle.mj_types.specs.Problems.{problem, forces}
+use Rattle.mj_types.specs.Problems.{problem, forces, place}
 use Rattle.mj_types.specs.Parts.{plain}
 use Rattle.mj_types.specs.Ranges.{limited}
 use Rattle.mj_types.specs.declared.range.Quantity.TheVariants as kind
-use Rattle.mj_pgs.specs.Answer.{place, row_fault}
+use Rattle.mj_pgs.specs.Answer.{row_fault}
 use Rattle.mj_pgs.specs.Holding.{change_at}
 use Rattle.mj_pgs.proofs.RowLaws.{change-none, none-reached, same_change, stays, wrap-zero}
 use Rattle.mj_pgs.proofs.row.update.Goals as goal

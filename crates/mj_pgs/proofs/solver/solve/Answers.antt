@@ -4,8 +4,7 @@ use Rattle.mj_optimum.specs.Stop.{sweeps_of}
 use Rattle.mj_optimum.specs.Sweep.{iterate}
 use Rattle.mj_optimum.specs.declared.stop.Stop.{Stop}
 use Rattle.mj_optimum.proofs.SweepLaws.{sweep_lowers_cost}
-use Rattle.mj_types.specs.Problems.{problem, forces}
-use Rattle.mj_pgs.specs.Answer.{place}
+use Rattle.mj_types.specs.Problems.{problem, forces, place}
 use Rattle.mj_pgs.proofs.RunLaws.{costs-nothing, if_ok_each, if_ok_map, stop-is}
 use Rattle.mj_pgs.proofs.SweepLaws.{holds_zero}
 use Rattle.mj_pgs.proofs.solver.solve.Goals as goal

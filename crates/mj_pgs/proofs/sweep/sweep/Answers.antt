@@ -2,8 +2,8 @@ use Rattle.std.proofs.Common.{◌≡◌, ◌∙◌, ℕ, ℤ, ap, arith}
 use Rattle.std.proofs.lemmas.Result.{err_from_is_err_and}
 use Rattle.fx_whole.proofs.FirstLaws.{stop_here, pass_all}
 use Rattle.mj_optimum.specs.Sweep.{pass}
-use Rattle.mj_types.specs.Problems.{problem, forces}
-use Rattle.mj_pgs.specs.Answer.{place, row_fault, pass_fault}
+use Rattle.mj_types.specs.Problems.{problem, forces, place}
+use Rattle.mj_pgs.specs.Answer.{row_fault, pass_fault}
 use Rattle.mj_pgs.proofs.SweepLaws.{swept-none, swept-more}
 use Rattle.mj_pgs.proofs.sweep.sweep.Goals as goal
 

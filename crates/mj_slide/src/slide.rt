@@ -1,7 +1,15 @@
 // The model of a body that slides.
-use crate::tape::SlideMotor;
 use fx_list::Array;
 use fx_num::Fix;
+use mj_types::Range;
+
+/// A motor on the slide joint: its force is the control, clamped to the range where there is one, times
+/// the gear.
+#[derive(Clone, Copy, Debug, PartialEq, Eq)]
+pub struct SlideMotor {
+    pub gear: Fix<32>,
+    pub ctrlrange: Option<Range>,
+}
 
 /// One body on one slide joint along the world's z axis.
 #[derive(Debug, Drop)]
