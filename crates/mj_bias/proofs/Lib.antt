@@ -1,0 +1,11 @@
+pub mod CarryLaws
+pub mod CoverLaws
+pub mod MeasureLaws
+pub mod MovingLaws
+pub mod PartLaws
+pub mod PlaceLaws
+pub mod RiseLaws
+pub mod SeenLaws
+pub mod SizeLaws
+pub mod StepLaws
+pub mod WrenchLaws

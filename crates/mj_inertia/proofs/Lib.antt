@@ -1,0 +1,4 @@
+pub mod NumberLaws
+pub mod CompositeLaws
+pub mod WritingLaws
+pub mod MassLaws

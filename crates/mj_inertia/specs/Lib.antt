@@ -1,0 +1,3 @@
+pub mod CompositeBodies
+pub mod MassEntries
+pub mod Written

@@ -1,0 +1,13 @@
+//! Composite inertias and the mass matrix in the space of dofs.
+#![tactic(auto)]
+
+mod composing;
+pub mod laws;
+mod matrix;
+mod numbers;
+#[cfg(test)]
+mod tests;
+
+pub use composing::composites;
+pub use laws::{carried_up_is_composite, composite_momentum_is_sum, radii_cover_unrounded};
+pub use matrix::mass_matrix;

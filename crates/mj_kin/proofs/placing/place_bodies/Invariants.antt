@@ -1,0 +1,13 @@
+use Rattle.std.proofs.Common.{◌≡◌, None}
+use Rattle.fx_whole.specs.First.{first_to}
+use Rattle.mj_types.specs.Rooms.{FramesRoom}
+use Rattle.mj_kin.specs.Bodies.{body_fault}
+use Rattle.mj_kin.specs.Working.{ArePlaced}
+use Rattle.mj_kin.proofs.placing.place_bodies.Given as goal
+
+abbrev pub invariant-loop-b : goal.invariant-loop-b
+invariant-loop-b l = record {
+  room : FramesRoom l.model l.out;
+  placed : ArePlaced l.model l.state l.out l.b;
+  passed : first_to l.b (body_fault l.model l.state) ≡ None;
+}

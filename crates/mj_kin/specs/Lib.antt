@@ -1,0 +1,5 @@
+pub mod Bodies
+pub mod Columns
+pub mod Placings
+pub mod Poses
+pub mod Working

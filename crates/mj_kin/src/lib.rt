@@ -1,0 +1,15 @@
+//! The kinematics of a step: poses, inertias and motion columns.
+#![tactic(auto)]
+
+mod bodies;
+mod columns;
+mod frame;
+mod geoms;
+mod inertias;
+mod joints;
+mod leaves;
+mod placing;
+#[cfg(test)]
+mod tests;
+
+pub use placing::frames;

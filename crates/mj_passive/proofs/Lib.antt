@@ -1,0 +1,5 @@
+pub mod SumLaws
+pub mod JointLaws
+pub mod MotorLaws
+pub mod TendonLaws
+pub mod AppliedLaws

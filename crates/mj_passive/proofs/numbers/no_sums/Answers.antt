@@ -1,0 +1,5 @@
+use Rattle.mj_passive.proofs.SumLaws.{none_begun}
+use Rattle.mj_passive.proofs.numbers.no_sums.Goals as goal
+
+pub returns : goal.returns
+returns c = λ p. none_begun 64 64 p

@@ -1,0 +1,52 @@
+use Rattle.std.proofs.Common.{ap, ◌∙◌}
+use Rattle.std.proofs.lemmas.Result.{err_from_is_err_and}
+use Rattle.fx_whole.proofs.FirstLaws.{stop_first, pass_first}
+use Rattle.mj_euler.specs.Advance.{state_fault}
+use Rattle.mj_types.specs.Parts.{number_at}
+use Rattle.mj_step.specs.Steps.{step_fault}
+use Rattle.mj_step.proofs.work.Work.compute.Goals as goal
+
+pub returns-in_err-weigh-clause-first : goal.returns-in_err-weigh-clause-first
+unfolding step_fault
+returns-in_err-weigh-clause-first c =
+    let r = err_from_is_err_and c.from_residual.result c.from_residual.ensures.1 in
+    rw (r.1, r.2) (stop_first _ _ _ c.in_err-weigh.ensures.first)
+
+pub returns-in_err-push-clause-first : goal.returns-in_err-push-clause-first
+unfolding step_fault
+returns-in_err-push-clause-first c =
+    let r = err_from_is_err_and c.from_residual-in_err-push.result c.from_residual-in_err-push.ensures.1 in
+    rw (r.1, r.2)
+    (pass_first _ _ _ c.in_ok-weigh.ensures.first
+    (stop_first _ _ _ c.in_err-push.ensures.first))
+
+pub returns-in_err-accelerate-clause-first : goal.returns-in_err-accelerate-clause-first
+unfolding step_fault
+returns-in_err-accelerate-clause-first c =
+    let r = err_from_is_err_and c.from_residual-in_err-accelerate.result c.from_residual-in_err-accelerate.ensures.1 in
+    rw (r.1, r.2)
+    (pass_first _ _ _ c.in_ok-weigh.ensures.first
+    (pass_first _ _ _ c.in_ok-push.ensures.first
+    (stop_first _ _ _ c.in_err-accelerate.ensures.first)))
+
+pub returns-in_err-integrate-clause-first : goal.returns-in_err-integrate-clause-first
+unfolding step_fault
+returns-in_err-integrate-clause-first c =
+    let r = err_from_is_err_and c.from_residual-in_err-integrate.result c.from_residual-in_err-integrate.ensures.1 in
+    rw (r.1, r.2)
+    (pass_first _ _ _ c.in_ok-weigh.ensures.first
+    (pass_first _ _ _ c.in_ok-push.ensures.first
+    (pass_first _ _ _ c.in_ok-accelerate.ensures.first
+    (c.in_err-integrate.ensures.first
+    ∙ ap (λ xs. state_fault c.args.model.now c.args.state.now (number_at xs)) c.as_slice.ensures.value
+    ∙ ap (state_fault c.args.model.now c.args.state.now) c.in_ok-accelerate.ensures.value))))
+
+pub returns-clause-first : goal.returns-clause-first
+unfolding step_fault
+returns-clause-first c =
+    pass_first _ _ _ c.in_ok-weigh.ensures.first
+    (pass_first _ _ _ c.in_ok-push.ensures.first
+    (pass_first _ _ _ c.in_ok-accelerate.ensures.first
+    (c.in_ok-integrate.ensures.first
+    ∙ ap (λ xs. state_fault c.args.model.now c.args.state.now (number_at xs)) c.as_slice.ensures.value
+    ∙ ap (state_fault c.args.model.now c.args.state.now) c.in_ok-accelerate.ensures.value)))

@@ -1,0 +1,3 @@
+pub mod Smooth
+pub mod Steps
+pub mod Workspace

@@ -1,0 +1,467 @@
+// The workspace of a run, and one step in it.
+ghost use Rattle.std.specs.Prelude.{◌≡◌, ◌<◌, ◌≤◌, ◌^◌, ℕ, false, is_ok, length, unsigned_abs, IsTrue, IfOk, IfErr};
+ghost use Rattle.mj_types.specs.Parts.{number_at};
+ghost use Rattle.fx_whole.specs.First.{refusal_of};
+ghost use Rattle.mj_types.specs.States.{Fits};
+ghost use Rattle.mj_types.specs.StepValues.{values_of};
+ghost use Rattle.mj_types.specs.BiasRooms.{BiasRoom};
+ghost use Rattle.mj_types.specs.FactorRooms.{FactorRoom};
+ghost use Rattle.mj_types.specs.Problems.{HasRoom};
+ghost use Rattle.mj_types.specs.Rooms.{FramesRoom, CompositeRoom, MassRoom, AppliedRoom};
+ghost use Rattle.mj_types.specs.RowRooms.{RowsRoom, ReportRoom};
+ghost use Rattle.mj_euler.specs.Written.{StateRoom};
+ghost use Rattle.mj_passive.specs.Forces.{AreControls, applied_fault};
+ghost use Rattle.mj_step.specs.Steps as spec;
+ghost use Rattle.mj_step.specs.Smooth.{is_smooth};
+ghost use Rattle.mj_step.specs.Workspace.{MadeFor, HasMass, HasBias, HasLoad};
+
+use crate::report::{clear_rows, copy_into, fill_load, largest_bias_radius, largest_mass_radius};
+use fx_list::Array;
+use fx_near::Band;
+use fx_num::{Fix, Number};
+use mj_bias::bias;
+use mj_euler::integrate;
+use mj_factor::{factor, residual, solve};
+use mj_inertia::{composites, mass_matrix};
+use mj_kin::frames;
+use mj_passive::applied;
+use mj_types::{
+    Applied, Bias, Composite, Dual, Factor, Frames, Mass, Model, NoMemory, OutOfRange, Rows, State,
+    StepReport,
+};
+use std::alloc::Global;
+
+/// All that a run's steps need beside the model and the state. It is made once; a step takes no memory.
+/// The fields are public so that contracts can name them. `load` is the force that is applied less the
+/// bias force, `smooth` the acceleration without contact forces; `is_done` says whether the last step
+/// was done, so that the report and the dual are its.
+#[derive(Drop)]
+pub struct Work {
+    pub frames: Frames,
+    pub composite: Composite,
+    pub mass: Mass,
+    pub bias: Bias<Band>,
+    pub applied: Applied,
+    pub factor: Factor,
+    pub load: Array<Fix<32>>,
+    pub smooth: Vec<Fix<32>>,
+    pub rows: Rows,
+    pub dual: Dual,
+    pub report: StepReport,
+    pub next: State,
+    pub is_done: bool,
+}
+
+// Zeros.
+fn zeros(alloc: Global, n: usize) -> Result<Array<Fix<32>>, NoMemory>
+    ensures { IfOk result (λ a. length a ≡ n) }
+{
+    match Array::filled(alloc, n, Number { mid: 0, rad: () }) {
+        Ok(list) => Ok(list),
+        Err(_) => Err(NoMemory),
+    }
+}
+
+// The workspace is made in parts: what the mass matrix is made of,
+#[derive(Drop)]
+struct TreeRooms {
+    frames: Frames,
+    composite: Composite,
+    mass: Mass,
+}
+
+impl TreeRooms {
+    fn new(alloc: Global, model: &Model) -> Result<TreeRooms, NoMemory>
+        ensures frames { IfOk result (λ r. FramesRoom model.now r.frames) }
+        ensures composite { IfOk result (λ r. CompositeRoom model.now r.composite) }
+        ensures mass { IfOk result (λ r. MassRoom model.now r.mass) }
+    {
+        Ok(TreeRooms {
+            frames: Frames::new(alloc, model)?,
+            composite: Composite::new(alloc, model)?,
+            mass: Mass::new(alloc, model)?,
+        })
+    }
+}
+
+// the forces and the factor,
+#[derive(Drop)]
+struct ForceRooms {
+    bias: Bias<Band>,
+    applied: Applied,
+    factor: Factor,
+}
+
+impl ForceRooms {
+    fn new(alloc: Global, model: &Model) -> Result<ForceRooms, NoMemory>
+        ensures bias { IfOk result (λ r. BiasRoom model.now r.bias) }
+        ensures applied { IfOk result (λ r. AppliedRoom model.now r.applied) }
+        ensures factor { IfOk result (λ r. FactorRoom model.now r.factor) }
+    {
+        Ok(ForceRooms {
+            bias: Bias::new(alloc, model)?,
+            applied: Applied::new(alloc, model)?,
+            factor: Factor::new(alloc, model)?,
+        })
+    }
+}
+
+// the rows, their dual and the report,
+#[derive(Drop)]
+struct RowRooms {
+    rows: Rows,
+    dual: Dual,
+    report: StepReport,
+}
+
+impl RowRooms {
+    fn new(alloc: Global, model: &Model) -> Result<RowRooms, NoMemory>
+        ensures rows { IfOk result (λ r. RowsRoom model.now r.rows) }
+        ensures dual { IfOk result (λ r. HasRoom model.now.njmax model.now.nv r.dual) }
+        ensures report { IfOk result (λ r. ReportRoom model.now r.report) }
+    {
+        Ok(RowRooms {
+            rows: Rows::new(alloc, model)?,
+            dual: Dual::new(alloc, model)?,
+            report: StepReport::new(alloc, model)?,
+        })
+    }
+}
+
+// and the acceleration and the next state.
+#[derive(Drop)]
+struct NumberRooms {
+    load: Array<Fix<32>>,
+    smooth: Vec<Fix<32>>,
+    next: State,
+}
+
+impl NumberRooms {
+    fn new(alloc: Global, model: &Model) -> Result<NumberRooms, NoMemory>
+        ensures load { IfOk result (λ r. length r.load ≡ model.now.nv) }
+        ensures smooth { IfOk result (λ r. length r.smooth.items ≡ model.now.nv) }
+        ensures next { IfOk result (λ r. StateRoom model.now r.next) }
+    {
+        Ok(NumberRooms {
+            load: zeros(alloc, model.nv)?,
+            smooth: zeros(alloc, model.nv)?.into_vec(),
+            next: State::new(alloc, model)?,
+        })
+    }
+}
+
+// The rows and the numbers.
+#[derive(Drop)]
+struct LastRooms {
+    rows: RowRooms,
+    numbers: NumberRooms,
+}
+
+impl LastRooms {
+    fn new(alloc: Global, model: &Model) -> Result<LastRooms, NoMemory>
+        ensures rows { IfOk result (λ r. RowsRoom model.now r.rows.rows) }
+        ensures dual { IfOk result (λ r. HasRoom model.now.njmax model.now.nv r.rows.dual) }
+        ensures report { IfOk result (λ r. ReportRoom model.now r.rows.report) }
+        ensures load { IfOk result (λ r. length r.numbers.load ≡ model.now.nv) }
+        ensures smooth { IfOk result (λ r. length r.numbers.smooth.items ≡ model.now.nv) }
+        ensures next { IfOk result (λ r. StateRoom model.now r.numbers.next) }
+    {
+        let rows = RowRooms::new(alloc, model)?;
+        match NumberRooms::new(alloc, model) {
+            Ok(numbers) => Ok(LastRooms { rows, numbers }),
+            Err(NoMemory) => {
+                drop(rows);
+                Err(NoMemory)
+            }
+        }
+    }
+}
+
+// The parts together: a workspace for the model that each is made for.
+fn joined(model: &Model, tree: TreeRooms, forces: ForceRooms, last: LastRooms) -> Work
+    requires frames { FramesRoom model.now tree.frames }
+    requires composite { CompositeRoom model.now tree.composite }
+    requires mass { MassRoom model.now tree.mass }
+    requires bias { BiasRoom model.now forces.bias }
+    requires applied { AppliedRoom model.now forces.applied }
+    requires factor { FactorRoom model.now forces.factor }
+    requires rows { RowsRoom model.now last.rows.rows }
+    requires dual { HasRoom model.now.njmax model.now.nv last.rows.dual }
+    requires report { ReportRoom model.now last.rows.report }
+    requires load { length last.numbers.load ≡ model.now.nv }
+    requires smooth { length last.numbers.smooth.items ≡ model.now.nv }
+    requires next { StateRoom model.now last.numbers.next }
+    ensures made { MadeFor model.now result }
+    ensures flag { result.is_done ≡ false }
+{
+    let TreeRooms {
+        frames,
+        composite,
+        mass,
+    } = tree;
+    let ForceRooms {
+        bias,
+        applied,
+        factor,
+    } = forces;
+    let LastRooms { rows, numbers } = last;
+    let RowRooms { rows, dual, report } = rows;
+    let NumberRooms { load, smooth, next } = numbers;
+    Work {
+        frames,
+        composite,
+        mass,
+        bias,
+        applied,
+        factor,
+        load,
+        smooth,
+        rows,
+        dual,
+        report,
+        next,
+        is_done: false,
+    }
+}
+
+impl Work {
+    /// A workspace for a model: all memory of all its steps.
+    pub fn new(alloc: Global, model: &Model) -> Result<Work, NoMemory>
+        ensures made { IfOk result (λ w. MadeFor model.now w) }
+        ensures flag { IfOk result (λ w. w.is_done ≡ false) }
+    {
+        let tree = TreeRooms::new(alloc, model)?;
+        let forces = match ForceRooms::new(alloc, model) {
+            Ok(forces) => forces,
+            Err(NoMemory) => {
+                drop(tree);
+                return Err(NoMemory);
+            }
+        };
+        match LastRooms::new(alloc, model) {
+            Ok(last) => Ok(joined(model, tree, forces, last)),
+            Err(NoMemory) => {
+                drop(tree);
+                drop(forces);
+                Err(NoMemory)
+            }
+        }
+    }
+
+    /// One step by semi-implicit Euler (MuJoCo documentation, Computation), for a model without
+    /// constraint rows: the state moves on by the model's time step under the controls. Where a number
+    /// leaves its range, the first such number is named and the state stays. Takes no memory.
+    pub fn step(
+        &mut self,
+        model: &Model,
+        state: &mut State,
+        controls: &[Fix<32>],
+    ) -> Result<(), OutOfRange>
+        requires smooth { IsTrue (is_smooth model.now) }
+        requires made { MadeFor model.now self.old }
+        requires fits { Fits model.now state.old }
+        requires controls { AreControls model.now controls.now }
+        ensures made { MadeFor model.now self.new }
+        ensures fits { Fits model.now state.new }
+        ensures first { refusal_of result
+            ≡ spec.step_fault model.now state.old controls.now }
+        ensures state { IfOk result (λ _. state.new
+            ≡ spec.step_state model.now state.old controls.now) }
+        ensures report { IfOk result (λ _. values_of state.new self.new.report
+            ≡ spec.step_values model.now state.old controls.now) }
+        ensures count { IfOk result (λ _. self.new.report.count
+            ≡ length self.new.report.rows.list) }
+        ensures kept { IfErr result (λ _. state.new ≡ state.old) }
+        ensures flag { self.new.is_done ≡ is_ok result }
+    {
+        self.is_done = false;
+        self.compute(model, state, controls)?;
+        std::mem::swap(state, &mut self.next);
+        self.is_done = true;
+        Ok(())
+    }
+
+    /// What the last step told, which was done.
+    pub fn report(&self) -> &StepReport
+        requires { IsTrue self.now.is_done }
+        ensures { result.now ≡ self.now.report }
+    {
+        &self.report
+    }
+
+    /// The dual of the last step, which was done.
+    pub fn dual(&self) -> &Dual
+        requires { IsTrue self.now.is_done }
+        ensures { result.now ≡ self.now.dual }
+    {
+        &self.dual
+    }
+
+    /// The rows of the last step, which was done, with their Jacobians.
+    pub fn jacobian(&self) -> &Rows
+        requires { IsTrue self.now.is_done }
+        ensures { result.now ≡ self.now.rows }
+    {
+        &self.rows
+    }
+
+    /// The acceleration without contact forces of the last step, which was done.
+    pub fn smooth(&self) -> &[Fix<32>]
+        requires { IsTrue self.now.is_done }
+        ensures { result.now ≡ self.now.smooth.items }
+    {
+        self.smooth.as_slice()
+    }
+
+    /// The mass matrix of the last step, which was done.
+    pub fn mass(&self) -> &Mass
+        requires { IsTrue self.now.is_done }
+        ensures { result.now ≡ self.now.mass }
+    {
+        &self.mass
+    }
+
+    /// The force applied less the bias force in the last step, which was done.
+    pub fn free_load(&self) -> &[Fix<32>]
+        requires { IsTrue self.now.is_done }
+        ensures { result.now ≡ self.now.load }
+    {
+        self.load.as_slice()
+    }
+
+    // The next state and the report, from a state.
+    fn compute(
+        &mut self,
+        model: &Model,
+        state: &State,
+        controls: &[Fix<32>],
+    ) -> Result<(), OutOfRange>
+        requires made { MadeFor model.now self.old }
+        requires fits { Fits model.now state.now }
+        requires controls { AreControls model.now controls.now }
+        ensures made { MadeFor model.now self.new }
+        ensures first { refusal_of result
+            ≡ spec.step_fault model.now state.now controls.now }
+        ensures next { IfOk result (λ _. self.new.next
+            ≡ spec.step_state model.now state.now controls.now) }
+        ensures fits { IfOk result (λ _. Fits model.now self.new.next) }
+        ensures report { IfOk result (λ _. values_of self.new.next self.new.report
+            ≡ spec.step_values model.now state.now controls.now) }
+        ensures count { IfOk result (λ _. self.new.report.count
+            ≡ length self.new.report.rows.list) }
+        ensures flag { self.new.is_done ≡ self.old.is_done }
+    {
+        self.weigh(model, state)?;
+        self.push(model, state, controls)?;
+        self.accelerate(model, state, controls)?;
+        integrate(model, state, self.smooth.as_slice(), &mut self.next)?;
+        self.fill_report(model, state, controls);
+        Ok(())
+    }
+
+    // The frames, the mass matrix and the bias forces of a state.
+    fn weigh(&mut self, model: &Model, state: &State) -> Result<(), OutOfRange>
+        requires made { MadeFor model.now self.old }
+        requires fits { Fits model.now state.now }
+        ensures made { MadeFor model.now self.new }
+        ensures first { refusal_of result ≡ spec.weigh_fault model.now state.now }
+        ensures mass { IfOk result (λ _. HasMass model.now state.now self.new.mass) }
+        ensures bias { IfOk result (λ _. HasBias model.now state.now self.new.bias.c) }
+        ensures flag { self.new.is_done ≡ self.old.is_done }
+    {
+        frames(model, state, &mut self.frames)?;
+        composites(model, &self.frames, &mut self.composite);
+        mass_matrix(
+            model,
+            self.frames.column.as_slice(),
+            &self.composite,
+            &mut self.mass,
+        )?;
+        bias(model, &self.frames, state, &mut self.bias)?;
+        Ok(())
+    }
+
+    // The applied forces, less the bias forces.
+    fn push(&mut self, model: &Model, state: &State, controls: &[Fix<32>]) -> Result<(), OutOfRange>
+        requires made { MadeFor model.now self.old }
+        requires fits { Fits model.now state.now }
+        requires controls { AreControls model.now controls.now }
+        requires bias { HasBias model.now state.now self.old.bias.c }
+        ensures made { MadeFor model.now self.new }
+        ensures first { refusal_of result ≡ applied_fault model.now state.now controls.now }
+        ensures load { IfOk result
+            (λ _. HasLoad model.now state.now controls.now self.new.load) }
+        ensures mass { self.new.mass ≡ self.old.mass }
+        ensures bias { self.new.bias ≡ self.old.bias }
+        ensures flag { self.new.is_done ≡ self.old.is_done }
+    {
+        applied(model, state, controls, &mut self.applied)?;
+        fill_load(
+            model,
+            self.applied.tau.as_slice(),
+            self.bias.c.as_slice(),
+            &mut self.load,
+        );
+        Ok(())
+    }
+
+    // The factor of the mass matrix, and the acceleration.
+    fn accelerate(
+        &mut self,
+        model: &Model,
+        state: &State,
+        controls: &[Fix<32>],
+    ) -> Result<(), OutOfRange>
+        requires made { MadeFor model.now self.old }
+        requires mass { HasMass model.now state.now self.old.mass }
+        requires load { HasLoad model.now state.now controls.now self.old.load }
+        ensures made { MadeFor model.now self.new }
+        ensures first { refusal_of result
+            ≡ spec.accelerate_fault model.now state.now controls.now }
+        ensures value { IfOk result (λ _. number_at self.new.smooth.items
+            ≡ spec.acceleration model.now state.now controls.now) }
+        ensures small { IfOk result (λ _. (i : ℕ) → i < model.now.nv
+            → unsigned_abs (number_at self.new.smooth.items i) ≤ 2 ^ 56) }
+        ensures mass { self.new.mass ≡ self.old.mass }
+        ensures bias { self.new.bias ≡ self.old.bias }
+        ensures load { self.new.load ≡ self.old.load }
+        ensures flag { self.new.is_done ≡ self.old.is_done }
+    {
+        factor(model, &self.mass, &mut self.factor)?;
+        solve(
+            model,
+            &self.factor,
+            self.load.as_slice(),
+            self.smooth.as_mut_slice(),
+        )?;
+        Ok(())
+    }
+
+    // What the step tells, of which the next state is computed.
+    fn fill_report(&mut self, model: &Model, state: &State, controls: &[Fix<32>])
+        requires made { MadeFor model.now self.old }
+        requires mass { HasMass model.now state.now self.old.mass }
+        requires bias { HasBias model.now state.now self.old.bias.c }
+        requires load { HasLoad model.now state.now controls.now self.old.load }
+        requires accel { number_at self.old.smooth.items
+            ≡ spec.acceleration model.now state.now controls.now }
+        requires small { (i : ℕ) → i < model.now.nv
+            → unsigned_abs (number_at self.old.smooth.items i) ≤ 2 ^ 56 }
+        requires next { self.old.next ≡ spec.step_state model.now state.now controls.now }
+        ensures made { MadeFor model.now self.new }
+        ensures next { self.new.next ≡ self.old.next }
+        ensures report { values_of self.new.next self.new.report
+            ≡ spec.step_values model.now state.now controls.now }
+        ensures count { self.new.report.count ≡ length self.new.report.rows.list }
+        ensures flag { self.new.is_done ≡ self.old.is_done }
+    {
+        copy_into(&mut self.report.accel, self.smooth.as_slice());
+        self.report.residual = residual(&self.mass, self.smooth.as_slice(), self.load.as_slice());
+        self.report.mass_radius = largest_mass_radius(model, &self.mass);
+        self.report.bias_radius = largest_bias_radius(self.bias.c.as_slice());
+        clear_rows(&mut self.report);
+        self.rows.list.clear();
+        self.rows.jac.clear();
+        self.dual.clear();
+    }
+}

@@ -1,0 +1,10 @@
+use Rattle.mj_io.specs.Sent.{Sent}
+use Rattle.mj_types.specs.Parts.{number_at}
+use Rattle.mj_trace.specs.Lines.{spaced}
+use Rattle.fx_whole.specs.Joined.{joined}
+use Rattle.mj_trace.proofs.lines.send_numbers.Given as goal
+
+abbrev pub invariant-loop-i : goal.invariant-loop-i
+invariant-loop-i g l = record {
+  sent : Sent g.S.Sink.holds g.S.Sink.faults l.initial.sink l.initial.page (joined l.i (λ i. spaced (number_at l.xs i))) l.sink l.page;
+}

@@ -1,0 +1,20 @@
+use Rattle.std.proofs.Common.{◌+◌, length, arith}
+use Rattle.mj_trace.proofs.Joining.{sent-begun, sent-joined, sent-whole, sent-as}
+use Rattle.std.specs.Prelude.{◌++◌, codes}
+use Rattle.fx_text.specs.Places.{decimal_text}
+use Rattle.mj_types.specs.Parts.{number_at}
+use Rattle.fx_whole.specs.Joined.{joined}
+use Rattle.mj_trace.proofs.summaries.send_places.Goals as goal
+
+pub loop-i-init : goal.loop-i-init
+loop-i-init g c = record {
+  sent = sent-begun g.S.Sink.holds g.S.Sink.faults c.args.sink.now c.args.page.now (λ i. codes " " ++ decimal_text 9 (number_at c.args.xs.now i));
+}
+
+pub loop-i-preserved : goal.loop-i-preserved
+loop-i-preserved g c = record {
+  sent = sent-joined c.loop-i.i (λ i. codes " " ++ decimal_text 9 (number_at c.args.xs.now i)) c.loop-i.invariant.sent (c.send_place.ensures);
+}
+
+pub returns : goal.returns
+returns g c = sent-whole c.loop-i.i (length c.args.xs.now) (λ i. codes " " ++ decimal_text 9 (number_at c.args.xs.now i)) (omega arith) c.loop-i.invariant.sent

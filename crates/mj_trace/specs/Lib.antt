@@ -1,0 +1,6 @@
+pub mod Block
+pub mod Lines
+pub mod Refusal
+pub mod Reports
+pub mod Summaries
+pub mod Trace

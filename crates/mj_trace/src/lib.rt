@@ -1,0 +1,19 @@
+//! The texts of a run: its trace line by line, its summary, and the one line of a refusal.
+#![tactic(auto)]
+
+pub mod blocks;
+mod dual;
+mod lines;
+pub mod refusals;
+mod rows;
+pub mod summaries;
+#[cfg(test)]
+mod tests;
+pub mod trace;
+
+pub use blocks::{block, send_block};
+pub use refusals::{
+    refusal, send_model_refusal, send_refusal, send_tape_refusal, send_words_refusal,
+};
+pub use summaries::{send_summary, summary};
+pub use trace::{end, header, send_end, send_header};
