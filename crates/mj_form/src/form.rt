@@ -11,7 +11,7 @@ use crate::refusal::Refusal;
 use fx_list::{Array, Text};
 use fx_num::{Fix, Number};
 use fx_text::read_decimal;
-use fx_whole::scaled;
+use fx_whole::scale_up;
 use mj_types::ModelCode;
 use num_traits::ToPrimitive;
 use std::alloc::Global;
@@ -128,7 +128,7 @@ fn number<const F: u32>(value: &Value) -> Result<Fix<F>, ModelCode>
     ensures { result ≡ spec.number F (view value.now) }
 {
     match value {
-        Value::Integer(n) => in_range(scaled(*n, F)),
+        Value::Integer(n) => in_range(scale_up(*n, F)),
         Value::String(text) => numeral(text.as_bytes()),
         _ => Err(ModelCode::WrongKind),
     }

@@ -1,0 +1,6 @@
+pub mod PlaceLaws
+pub mod Upheld
+pub mod SumOrder
+pub mod RootLaws
+pub mod PlacedLaws
+pub mod ListLaws

@@ -1,0 +1,9 @@
+pub mod Chains
+pub mod KeyLaws
+pub mod TableLaws
+pub mod StartLaws
+pub mod ModelLaws
+pub mod Holes
+pub mod EachIs
+pub mod NameLaws
+pub mod SoundLaws

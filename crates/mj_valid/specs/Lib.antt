@@ -1,0 +1,3 @@
+pub mod Start
+pub mod Judging
+pub mod Sound

@@ -1,0 +1,5 @@
+use Rattle.mj_walk.proofs.EachLaws.{each-more}
+use Rattle.mj_walk.proofs.geoms.judge_geoms.Goals as goal
+
+pub loop-i-preserved : goal.loop-i-preserved
+loop-i-preserved c = each-more _ _ _ _ _ _ _ _ c.loop-i.invariant c.loop-i-test.true c.index-own-i.is c.in_ok-x.ensures c.in_ok-push.ensures.items

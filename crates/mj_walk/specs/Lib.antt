@@ -1,0 +1,4 @@
+pub mod Names
+pub mod Walks
+pub mod Tables
+pub mod Counts
