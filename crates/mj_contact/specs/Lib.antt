@@ -1,0 +1,4 @@
+pub mod Filter
+pub mod Lists
+pub mod Sizes
+pub mod Growing

@@ -1,0 +1,10 @@
+//! The contacts of a state: which pairs of geoms are tested, and their contacts in order.
+#![tactic(auto)]
+
+mod filter;
+mod list;
+mod pair;
+#[cfg(test)]
+mod tests;
+
+pub use list::contacts;

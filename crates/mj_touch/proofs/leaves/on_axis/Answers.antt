@@ -1,0 +1,9 @@
+use Rattle.std.proofs.Common.{◌+◌, ◌*◌, ◌^◌, arith}
+use Rattle.fx_vec.specs.Views.{mids}
+use Rattle.fx_vec.proofs.Bounds.{within-le}
+use Rattle.mj_touch.proofs.leaves.on_axis.Goals as goal
+
+pub returns-clause-size : goal.returns-clause-size
+returns-clause-size c =
+    let n = within-le (mids c.args.a.now) (2 ^ 32 + 16) (2 ^ 33) c.requires.a (omega arith) in
+    within-le (mids c.move_along.result) (2 ^ 46 + 2 * 2 ^ 42) (2 ^ 47) (c.move_along.ensures.linear (2 ^ 46) (2 ^ 42) c.requires.c n c.requires.k) (omega arith)
