@@ -10,7 +10,8 @@ use crate::judge::push_record;
 use csv::{ByteRecord, ReaderBuilder};
 use fx_list::Array;
 use fx_num::Fix;
-use mj_types::{SlideModel, Tape, TapeFault};
+use mj_slide::SlideModel;
+use mj_types::{Tape, TapeFault};
 use std::alloc::Global;
 
 // The greatest length of a tape's file.

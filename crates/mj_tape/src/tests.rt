@@ -2,7 +2,8 @@
 use super::*;
 use fx_list::Array;
 use fx_num::Number;
-use mj_types::{SlideModel, SlideMotor, Tape, TapeFault};
+use mj_slide::{SlideModel, SlideMotor};
+use mj_types::{Tape, TapeFault};
 use std::alloc::{AllocError, Global};
 use std::test::Fail;
 

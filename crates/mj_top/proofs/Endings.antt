@@ -3,7 +3,7 @@ use Rattle.std.proofs.Common.{◌≡◌, inl, inr, ℕ, Bool, List, Option, Some
 use Rattle.mj_io.specs.Faults.{Rose}
 use Rattle.mj_io.specs.Growth.{Grew}
 use Rattle.mj_io.specs.Sent.{Wrote}
-use Rattle.mj_types.specs.declared.slide.SlideModel.{SlideModel}
+use Rattle.mj_slide.specs.declared.slide.SlideModel.{SlideModel}
 use Rattle.mj_types.specs.declared.range.End.{End}
 use Rattle.mj_types.specs.declared.range.End.TheVariants as finish
 use Rattle.mj_types.specs.declared.status.ModelFault.{ModelFault}

@@ -10,8 +10,8 @@ use Rattle.fx_num.specs.declared.number.Number.{Number}
 use Rattle.fx_whole.proofs.Ring.{mul_step}
 use Rattle.fx_text.specs.Decimal.{decimal}
 use Rattle.fx_text.specs.declared.decimal.DecimalFault.{DecimalFault}
-use Rattle.mj_types.specs.declared.slide.SlideModel.{SlideModel}
-use Rattle.mj_types.specs.declared.tape.SlideMotor.{SlideMotor}
+use Rattle.mj_slide.specs.declared.slide.SlideModel.{SlideModel}
+use Rattle.mj_slide.specs.declared.slide.SlideMotor.{SlideMotor}
 use Rattle.mj_types.specs.declared.parts.Range.{Range}
 use Rattle.mj_types.specs.declared.status.ModelCode.{ModelCode}
 use Rattle.mj_types.specs.declared.status.ModelCode.TheVariants.{NotBuilt, Memory}

@@ -3,7 +3,7 @@ use Rattle.std.proofs.Common.{◌≡◌, ◌∙◌, ℕ, ◌<◌, ◌≤◌, ℤ
 use Rattle.std.proofs.lemmas.Bool.Decides.{nat_tests}
 use Rattle.fx_num.specs.declared.number.Number.{Number}
 use Rattle.fx_whole.proofs.FirstLaws.{or_pass}
-use Rattle.mj_types.specs.declared.slide.SlideModel.{SlideModel}
+use Rattle.mj_slide.specs.declared.slide.SlideModel.{SlideModel}
 use Rattle.mj_types.specs.declared.range.OutOfRange.{OutOfRange}
 use Rattle.mj_types.specs.declared.range.Quantity.{Quantity}
 use Rattle.mj_types.specs.declared.range.Quantity.TheVariants as kind

@@ -1,8 +1,8 @@
 -- A document's model, from what its tables hold.
 use Rattle.std.proofs.Common.{◌≡◌, ℕ, List, Option, Some, option_map, option_and_then, ok_or, Ok, Err, codes, inl, inr, sym, ap, ◌∙◌}
 use Rattle.toml.specs.Data.{Members}
-use Rattle.mj_types.specs.declared.slide.SlideModel.{SlideModel}
-use Rattle.mj_types.specs.declared.tape.SlideMotor.{SlideMotor}
+use Rattle.mj_slide.specs.declared.slide.SlideModel.{SlideModel}
+use Rattle.mj_slide.specs.declared.slide.SlideMotor.{SlideMotor}
 use Rattle.mj_types.specs.declared.status.ModelCode.{ModelCode}
 use Rattle.mj_types.specs.declared.status.ModelCode.TheVariants.{NotBuilt, Memory}
 use Rattle.mj_top.specs.declared.model.Settings.{Settings}

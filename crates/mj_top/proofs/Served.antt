@@ -1,6 +1,6 @@
 -- What an accepted tape serves.
 use Rattle.std.proofs.Common.{◌≡◌, ◌⊎◌, inl, inr, ℕ, ◌*◌, ◌^◌, ◌≤◌, unsigned_abs, pos, Bool, true, false, nat_lt, List, length, Option, Some, None, Result, Ok, Err, refl, sym, ap, arith, ltb-false, if◌then◌else◌}
-use Rattle.mj_types.specs.declared.slide.SlideModel.{SlideModel}
+use Rattle.mj_slide.specs.declared.slide.SlideModel.{SlideModel}
 use Rattle.mj_types.specs.declared.tape.TapeFault.{TapeFault}
 use Rattle.mj_types.specs.declared.tape.TapeFault.TheVariants.{TooLarge, Short}
 use Rattle.std.proofs.lemmas.Bool.{cases_lt}

@@ -5,7 +5,7 @@ use Rattle.std.proofs.lemmas.List.Concat.{flat_map-append}
 use Rattle.std.proofs.lemmas.Bool.{cases_lt}
 use Rattle.fx_whole.specs.First.{first_to}
 use Rattle.fx_whole.proofs.FirstLaws.{first_here, first_none, first_some, first_more, or_pass}
-use Rattle.mj_types.specs.declared.slide.SlideModel.{SlideModel}
+use Rattle.mj_slide.specs.declared.slide.SlideModel.{SlideModel}
 use Rattle.mj_types.specs.declared.range.OutOfRange.{OutOfRange}
 use Rattle.mj_types.specs.declared.range.End.TheVariants as finish
 use Rattle.mj_top.specs.declared.step.State.{State}

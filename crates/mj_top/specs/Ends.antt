@@ -4,7 +4,7 @@ use Rattle.mj_io.specs.Faults.{Rose}
 use Rattle.mj_io.specs.Growth.{Grew, GrewPart}
 use Rattle.mj_types.specs.declared.status.Status.{Status}
 use Rattle.mj_types.specs.declared.status.Status.TheVariants as status
-use Rattle.mj_types.specs.declared.slide.SlideModel.{SlideModel}
+use Rattle.mj_slide.specs.declared.slide.SlideModel.{SlideModel}
 use Rattle.mj_types.specs.declared.status.ModelFault.{ModelFault}
 use Rattle.mj_top.specs.Words.{bad_place, model_of, tape_of}
 use Rattle.mj_top.specs.Model.{model_verdict}

@@ -1,8 +1,8 @@
 -- What holds of each model that is accepted: its numbers lie in these ranges.
 use Rattle.std.specs.Prelude.{◌*◌, ◌^◌, ◌≤◌, pos, ◌<ℤ◌, ◌≤ℤ◌, unsigned_abs, length, IfSome}
 use Rattle.std.specs.List.{All}
-use Rattle.mj_types.specs.declared.slide.SlideModel.{SlideModel}
-use Rattle.mj_types.specs.declared.tape.SlideMotor.{SlideMotor}
+use Rattle.mj_slide.specs.declared.slide.SlideModel.{SlideModel}
+use Rattle.mj_slide.specs.declared.slide.SlideMotor.{SlideMotor}
 use Rattle.mj_types.specs.declared.parts.Range.{Range}
 
 -- the ends of a range of controls are at most 2^20 in size, and ascend

@@ -4,7 +4,7 @@ use Rattle.std.specs.Str.{is_utf8}
 use Rattle.toml.specs.Data.{Items, Members}
 use Rattle.toml.specs.Parse.{parse_document}
 use Rattle.fx_num.specs.declared.number.Number.{Number}
-use Rattle.mj_types.specs.declared.slide.SlideModel.{SlideModel}
+use Rattle.mj_slide.specs.declared.slide.SlideModel.{SlideModel}
 use Rattle.mj_types.specs.declared.status.ModelFault.{ModelFault}
 use Rattle.mj_types.specs.declared.status.ModelCode.{ModelCode}
 use Rattle.mj_types.specs.declared.status.ModelCode.TheVariants.{TooLarge, NotToml, NotBuilt}

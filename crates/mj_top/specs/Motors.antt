@@ -3,7 +3,7 @@ use Rattle.std.specs.Prelude.{ℕ, ℤ, pos, negsuc, int_le, not, nat_le, ◌==�
 use Rattle.toml.specs.Data.{Data, Items, no_items, item, Members, get_member, as_array, as_table}
 use Rattle.fx_num.specs.declared.number.Number.{Number}
 use Rattle.mj_io.specs.Memory.{OrMemory}
-use Rattle.mj_types.specs.declared.tape.SlideMotor.{SlideMotor}
+use Rattle.mj_slide.specs.declared.slide.SlideMotor.{SlideMotor}
 use Rattle.mj_types.specs.declared.parts.Range.{Range}
 use Rattle.mj_types.specs.declared.status.ModelCode.{ModelCode}
 use Rattle.mj_types.specs.declared.status.ModelCode.TheVariants.{NotBuilt, Memory}

@@ -1,6 +1,6 @@
 -- What a command answers and writes, for its words and for the bytes held under each name.
 use Rattle.std.specs.Prelude.{ℕ, ℤ, List, length, take, Option, Some, None, option_map, option_and_then, Result, Ok, Err}
-use Rattle.mj_types.specs.declared.slide.SlideModel.{SlideModel}
+use Rattle.mj_slide.specs.declared.slide.SlideModel.{SlideModel}
 use Rattle.mj_types.specs.declared.range.End.{End}
 use Rattle.mj_types.specs.declared.range.End.TheVariants as finish
 use Rattle.mj_types.specs.declared.status.ModelFault.{ModelFault}

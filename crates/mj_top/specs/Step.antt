@@ -8,8 +8,8 @@ use Rattle.fx_num.specs.declared.number.Number.{Number}
 use Rattle.fx_whole.specs.Nearest.{nearest}
 use Rattle.fx_whole.specs.First.{or_first}
 use Rattle.fx_whole.specs.Sums.{sum_to}
-use Rattle.mj_types.specs.declared.slide.SlideModel.{SlideModel}
-use Rattle.mj_types.specs.declared.tape.SlideMotor.{SlideMotor}
+use Rattle.mj_slide.specs.declared.slide.SlideModel.{SlideModel}
+use Rattle.mj_slide.specs.declared.slide.SlideMotor.{SlideMotor}
 use Rattle.mj_types.specs.declared.parts.Range.{Range}
 use Rattle.mj_types.specs.declared.range.OutOfRange.{OutOfRange}
 use Rattle.mj_top.specs.declared.step.State.{State}

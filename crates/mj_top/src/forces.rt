@@ -7,8 +7,9 @@ ghost use Rattle.mj_top.specs.Lawful.{IsLawful};
 ghost use Rattle.mj_top.specs.Step as spec;
 
 use fx_num::Fix;
-use fx_whole::{difference, narrow, nearest, nearest_shift, product, size, sum, wide_scaled};
-use mj_types::{Range, SlideModel, SlideMotor, Tape};
+use fx_whole::{difference, narrow, nearest, nearest_shift, product, scale_up_wide, size, sum};
+use mj_slide::{SlideModel, SlideMotor};
+use mj_types::{Range, Tape};
 
 // A control, cut to a motor's range where it has one.
 fn clamped(range: &Option<Range>, control: &Fix<32>) -> Fix<32>
@@ -108,5 +109,5 @@ pub fn residual(mass: &u32, accel: &Fix<32>, load: &i128) -> i128
     ensures { result ≡ pos (unsigned_abs (pos mass.now *ℤ accel.now.mid -ℤ load.now) * 2 ^ 40) }
 {
     let miss = difference(product(i64::from(*mass), accel.mid), *load);
-    wide_scaled(size(miss) as i128, 40)
+    scale_up_wide(size(miss) as i128, 40)
 }

@@ -18,7 +18,8 @@ use document::{
     third_of_three,
 };
 use fx_num::{Fix, Number};
-use mj_types::{ModelCode, ModelFault, Path, SlideModel};
+use mj_slide::SlideModel;
+use mj_types::{ModelCode, ModelFault, Path};
 use motors::motors_at;
 use std::alloc::Global;
 use timestep::timestep_of;

@@ -9,7 +9,8 @@ ghost use Rattle.mj_top.specs.Trace.{blocks_text, trace_text};
 use crate::step::{Motion, start, step};
 use crate::trace::{Block, send_block, send_end, send_header};
 use mj_io::{Failed, Page, Sink};
-use mj_types::{End, OutOfRange, SlideModel, Tape};
+use mj_slide::SlideModel;
+use mj_types::{End, OutOfRange, Tape};
 
 // The end of a run whose step after `done` others is refused.
 fn early_end(done: u32, out: OutOfRange) -> End

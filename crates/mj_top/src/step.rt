@@ -7,7 +7,8 @@ ghost use Rattle.mj_top.specs.Step as spec;
 use crate::forces::{acceleration, applied_force, load_of, residual};
 use fx_num::Fix;
 use fx_whole::{is_within, narrow, nearest_shift, product, sum};
-use mj_types::{OutOfRange, Quantity, SlideModel, Tape};
+use mj_slide::SlideModel;
+use mj_types::{OutOfRange, Quantity, Tape};
 
 /// Where the body is and how fast it moves.
 #[derive(Clone, Copy)]

@@ -14,8 +14,9 @@ use crate::refusal::{send_model_refusal, send_tape_refusal, send_words_refusal};
 use crate::run::send_run;
 use crate::words::{bad_place, model_of, step_count, tape_of};
 use mj_io::{Cabinet, CabinetFault, Failed, Page, Sink, finish};
+use mj_slide::SlideModel;
 use mj_tape::tape;
-use mj_types::{End, ModelCode, ModelFault, SlideModel, Status, Tape, TapeFault};
+use mj_types::{End, ModelCode, ModelFault, Status, Tape, TapeFault};
 use std::alloc::Global;
 use std::thread::Threads;
 

@@ -5,7 +5,7 @@ ghost use Rattle.toml.specs.View.{view, array_view, table_view};
 ghost use Rattle.mj_top.specs.Document as spec;
 
 use fx_num::{Fix, Number};
-use fx_whole::{narrow, scaled};
+use fx_whole::{narrow, scale_up};
 use toml::value::Array;
 use toml::{Table, Value};
 
@@ -134,7 +134,7 @@ pub(super) fn at_scale(number: i64) -> Fix<32>
     ensures { result ≡ spec.at_scale number }
 {
     Number {
-        mid: narrow(scaled(number, 32)),
+        mid: narrow(scale_up(number, 32)),
         rad: (),
     }
 }

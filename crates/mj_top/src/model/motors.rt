@@ -8,7 +8,8 @@ use super::document::{
     Bounds, at_scale, integer_between, integer_item, only_keys, text_at, value_at,
 };
 use fx_num::Fix;
-use mj_types::{ModelCode, Range, SlideMotor};
+use mj_slide::SlideMotor;
+use mj_types::{ModelCode, Range};
 use std::alloc::Global;
 use toml::value::Array;
 use toml::{Table, Value};

@@ -1,7 +1,8 @@
 use super::read_model;
 use super::timestep::timestep_of;
 use fx_num::{Fix, Number};
-use mj_types::{ModelCode, Range, SlideMotor};
+use mj_slide::SlideMotor;
+use mj_types::{ModelCode, Range};
 use std::alloc::{AllocError, Global};
 use std::test::Fail;
 

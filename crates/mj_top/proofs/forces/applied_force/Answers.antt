@@ -1,5 +1,5 @@
 use Rattle.std.proofs.Common.{sym, subst, List, ◌*◌, ◌^◌, ◌≤◌, unsigned_abs}
-use Rattle.mj_types.specs.declared.tape.SlideMotor.{SlideMotor}
+use Rattle.mj_slide.specs.declared.slide.SlideMotor.{SlideMotor}
 use Rattle.mj_top.specs.Step.{motor}
 use Rattle.mj_top.proofs.Served.{lawful-gears}
 use Rattle.mj_top.proofs.forces.applied_force.Goals as goal

@@ -9,14 +9,14 @@ composed m a l p d r s e f g h = h ∙ ap (λ k. pos (k * 2 ^ 40)) (g ∙ ap uns
 
 pub returns : goal.returns
 returns c =
-    let fits : SFits w128 c.wide_scaled.result = record { sfits = c.wide_scaled.type_inv } in
+    let fits : SFits w128 c.scale_up_wide.result = record { sfits = c.scale_up_wide.type_inv } in
     let miss : SFits w128 c.difference-miss.result = record { sfits = c.difference-miss.type_inv } in
     let moved : SFits w128 c.product.result = record { sfits = c.product.type_inv } in
     let mass : SFits w64 c.from.result = record { sfits = c.from.type_inv } in
     let accel : SFits w64 c.args.accel.now.mid = search rules in
     let load : SFits w128 c.args.load.now = fits_signed_from_abs w128 c.args.load.now (omega arith) in
-    to_z-of_z fits ∙ composed c.args.mass.now c.args.accel.now.mid c.args.load.now c.product.result c.difference-miss.result c.wide_scaled.result c.size.result
+    to_z-of_z fits ∙ composed c.args.mass.now c.args.accel.now.mid c.args.load.now c.product.result c.difference-miss.result c.scale_up_wide.result c.size.result
     (c.product.ensures.value ∙ ap₂ (λ x y. x *ℤ y) (to_z-of_z mass ∙ c.from.ensures) (to_z-of_z accel))
     (c.difference-miss.ensures.value ∙ ap₂ (λ x y. x -ℤ y) (to_z-of_z moved) (to_z-of_z load))
     (c.size.ensures.value ∙ ap unsigned_abs (to_z-of_z miss))
-    (c.wide_scaled.ensures.value ∙ ap (λ x. x *ℤ pos (2 ^ 40)) (to_z_pos w128 c.size.result (omega (arith, ints))))
+    (c.scale_up_wide.ensures.value ∙ ap (λ x. x *ℤ pos (2 ^ 40)) (to_z_pos w128 c.size.result (omega (arith, ints))))
