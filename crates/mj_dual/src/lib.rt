@@ -1,0 +1,9 @@
+//! The dual of a state: each constraint's row, reduced by the factor of the mass matrix.
+#![tactic(auto)]
+
+mod numbers;
+mod reducing;
+#[cfg(test)]
+mod tests;
+
+pub use reducing::reduce;
