@@ -1,2 +1,3 @@
+pub mod Products
 pub mod Reductions
 pub mod Entries

@@ -3,8 +3,6 @@
 use Rattle.std.specs.Prelude.{ℕ, ◌^◌, ℤ, pos, ◌-ℤ◌, ◌*ℤ◌, int_lt, Bool, cond, Option, Some, None}
 use Rattle.fx_whole.specs.First.{or_first}
 use Rattle.fx_whole.specs.Nearest.{nearest}
-use Rattle.fx_whole.specs.Sums.{sum_to}
-use Rattle.fx_num.specs.Settled.{settled_mid}
 use Rattle.mj_types.specs.declared.parts.Soft.{Soft}
 use Rattle.mj_types.specs.declared.range.OutOfRange.{OutOfRange}
 use Rattle.mj_types.specs.declared.range.Quantity.{Quantity}
@@ -13,6 +11,7 @@ use Rattle.mj_types.specs.Ranges.{limited}
 use Rattle.mj_factor.specs.Solves.{half, half_fault}
 use Rattle.mj_imp.specs.Impedance.{one, impedance}
 use Rattle.mj_imp.specs.Reference.{reference, reference_over}
+use Rattle.mj_dual.specs.Products.{square_sum, along}
 
 -- ---- what constraints act on
 -- the velocity, and the acceleration without constraints
@@ -32,10 +31,6 @@ pub record Dynamics : Type 0 where
 abbrev pub reduced : Dynamics → (ℕ → ℤ) → ℕ → ℤ
 reduced y j = half y.motion.dofs y.lower y.pivot j
 
--- g . g
-unfoldable pub square_sum : ℕ → (ℕ → ℤ) → ℤ
-square_sum n g = sum_to n (λ k. g k *ℤ g k)
-
 -- its entry in the diagonal of A = G G^T
 abbrev pub diagonal : Dynamics → (ℕ → ℤ) → ℤ
 diagonal y j = square_sum y.motion.dofs (reduced y j)
@@ -47,10 +42,6 @@ is_idle diag = int_lt diag (pos (2 ^ 28))
 -- A_ii (1 - d) / d, at the impedance d
 abbrev pub regularizer : ℤ → ℤ → ℤ
 regularizer diag d = nearest (diag *ℤ (one -ℤ d)) d
-
--- J x
-unfoldable pub along : ℕ → (ℕ → ℤ) → (ℕ → ℤ) → ℤ
-along n j x = settled_mid (sum_to n (λ k. j k *ℤ x k)) 32
 
 -- the acceleration that it asks for
 abbrev pub wanted : Motion → Soft → ℤ → (ℕ → ℤ) → ℤ

@@ -5,7 +5,7 @@ ghost use Rattle.fx_whole.specs.Sums.{sum_to};
 ghost use Rattle.mj_types.specs.declared.range.Quantity.TheVariants as kind;
 ghost use Rattle.mj_types.specs.Parts.{number_at};
 ghost use Rattle.mj_types.specs.Ranges as ranges;
-ghost use Rattle.mj_dual.specs.Reductions as spec;
+ghost use Rattle.mj_dual.specs.Products as spec;
 
 use fx_num::{Fix, Number, Wide, narrow_within};
 use fx_whole::{add_product, nearest_shift};

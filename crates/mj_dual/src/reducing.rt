@@ -13,6 +13,7 @@ ghost use Rattle.mj_factor.specs.Stored.{IsFactor, entry};
 ghost use Rattle.mj_imp.specs.Impedance as imp;
 ghost use Rattle.mj_imp.specs.Reference as solref;
 ghost use Rattle.mj_dual.specs.Entries as entries;
+ghost use Rattle.mj_dual.specs.Products.{along};
 ghost use Rattle.mj_dual.specs.Reductions as spec;
 
 use crate::numbers::{along, limited, square_sum, within_regular};
@@ -93,14 +94,14 @@ pub(crate) fn wanted(
     requires velocities { (k : ℕ) → k < length jacobian.now
         → unsigned_abs (number_at v.now k) ≤ 2 ^ 56 }
     ensures value { IfOk result (λ x. x.mid ≡ solref.reference row.now.soft d.now.mid
-        row.now.r.mid (spec.along (length jacobian.now) (number_at jacobian.now)
+        row.now.r.mid (along (length jacobian.now) (number_at jacobian.now)
         (number_at v.now))) }
     ensures within { IfOk result (λ x. unsigned_abs x.mid ≤ 2 ^ 54) }
     ensures first { refusal_of result ≡ or_first
-        (ranges.limited kind.Reference number (2 ^ 54) (spec.along (length jacobian.now)
+        (ranges.limited kind.Reference number (2 ^ 54) (along (length jacobian.now)
         (number_at jacobian.now) (number_at v.now)))
         (spec.of_row kind.Reference number (solref.reference_over row.now.soft d.now.mid
-        row.now.r.mid (spec.along (length jacobian.now) (number_at jacobian.now)
+        row.now.r.mid (along (length jacobian.now) (number_at jacobian.now)
         (number_at v.now)))) }
 {
     let jv = limited(&along(jacobian, v), 1 << 54, Quantity::Reference, number)?;
@@ -135,13 +136,13 @@ pub(crate) fn right_side(
         → unsigned_abs (number_at jacobian.now k) ≤ 2 ^ 48 }
     requires accelerations { (k : ℕ) → k < length jacobian.now
         → unsigned_abs (number_at smooth.now k) ≤ 2 ^ 56 }
-    ensures value { IfOk result (λ x. x.mid ≡ spec.along (length jacobian.now)
+    ensures value { IfOk result (λ x. x.mid ≡ along (length jacobian.now)
         (number_at jacobian.now) (number_at smooth.now) -ℤ wanted.now.mid) }
     ensures within { IfOk result (λ x. unsigned_abs x.mid ≤ 2 ^ 56) }
     ensures first { refusal_of result ≡ or_first
-        (ranges.limited kind.DualVector number (2 ^ 56) (spec.along (length jacobian.now)
+        (ranges.limited kind.DualVector number (2 ^ 56) (along (length jacobian.now)
         (number_at jacobian.now) (number_at smooth.now)))
-        (ranges.limited kind.DualVector number (2 ^ 56) (spec.along (length jacobian.now)
+        (ranges.limited kind.DualVector number (2 ^ 56) (along (length jacobian.now)
         (number_at jacobian.now) (number_at smooth.now) -ℤ wanted.now.mid)) }
 {
     let ja = limited(
