@@ -24,7 +24,7 @@ dynamics m s f smooth = record { motion = motion m s smooth; lower = entry (abov
 -- the row of a constraint that can be reduced
 pub record IsRow (c : Row) : Type 0 where
   pub soft : IsSoft c.soft
-  pub r : unsigned_abs c.r.mid ≤ 2 ^ 54
+  pub r : unsigned_abs c.r.mid ≤ 2 ^ 56
   pub low : IsTrue (is_low (bound c.low))
   pub high : IsTrue (is_high (bound c.high))
 

@@ -77,8 +77,8 @@ active_fault row x diag s r j =
     (or_first (wanted_fault row x s r j) (right_side_fault row x s r j))
 
 -- an idle row has no number after its diagonal entry
-abbrev pub row_fault : ℕ → Dynamics → Soft → ℤ → (ℕ → ℤ) → Option OutOfRange
-row_fault row y s r j =
+abbrev pub reduction_fault : ℕ → Dynamics → Soft → ℤ → (ℕ → ℤ) → Option OutOfRange
+reduction_fault row y s r j =
     or_first (reduced_fault row y j)
     (or_first (limited kind.Regularizer row (2 ^ 72) (diagonal y j))
     (cond (is_idle (diagonal y j)) None (active_fault row y.motion (diagonal y j) s r j)))

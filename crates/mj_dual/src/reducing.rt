@@ -84,7 +84,7 @@ pub(crate) fn wanted(
     v: &[Fix<32>],
 ) -> Result<Fix<32>, OutOfRange>
     requires soft { IsSoft row.now.soft }
-    requires r { unsigned_abs row.now.r.mid ≤ 2 ^ 54 }
+    requires r { unsigned_abs row.now.r.mid ≤ 2 ^ 56 }
     requires some { pos 0 <ℤ d.now.mid }
     requires below_one { d.now.mid <ℤ imp.one }
     requires few { length jacobian.now ≤ 64 }
@@ -252,7 +252,7 @@ pub fn reduce(
     ensures numbers { OnOk result ((k : ℕ) → k < model.now.nv → number_at out.new k ≡ spec.reduced
         (entries.dynamics model.now state.now factor.now smooth.now) (number_at jacobian.now) k) }
     ensures lawful { IfOk result (λ x. IfSome x (λ e. MayBeRow model.now.nv out.new e)) }
-    ensures first { refusal_of result ≡ spec.row_fault number
+    ensures first { refusal_of result ≡ spec.reduction_fault number
         (entries.dynamics model.now state.now factor.now smooth.now) row.now.soft row.now.r.mid
         (number_at jacobian.now) }
 {

@@ -73,7 +73,7 @@ fn rest(x: &Fix<32>) -> Fix<32>
 
 // `|x|`.
 fn size(x: &Fix<32>) -> Fix<32>
-    requires { unsigned_abs x.now.mid ≤ 2 ^ 54 }
+    requires { unsigned_abs x.now.mid ≤ 2 ^ 56 }
     ensures value { result.mid ≡ pos (unsigned_abs x.now.mid) }
 {
     Fix::from_raw(x.mid.abs())
@@ -96,7 +96,7 @@ fn at_most_one(n: &i128) -> Fix<32>
 // How far into the width a violation of `r` is, from 0 to 1.
 fn depth(width: &Fix<32>, r: &Fix<32>) -> Fix<32>
     requires width { pos 0 <ℤ width.now.mid }
-    requires r { unsigned_abs r.now.mid ≤ 2 ^ 54 }
+    requires r { unsigned_abs r.now.mid ≤ 2 ^ 56 }
     ensures value { result.mid ≡ spec.depth width.now.mid r.now.mid }
     ensures low { pos 0 ≤ℤ result.mid }
     ensures high { result.mid ≤ℤ spec.one }
@@ -186,7 +186,7 @@ fn between(a: &Fix<32>, b: &Fix<32>, y: &Fix<32>) -> Fix<32>
 /// between dmin and dmax, and so between 0 and 1.
 pub fn impedance(soft: &Soft, r: Fix<32>) -> Fix<32>
     requires soft { IsSoft soft.now }
-    requires r { unsigned_abs r.mid ≤ 2 ^ 54 }
+    requires r { unsigned_abs r.mid ≤ 2 ^ 56 }
     ensures value { result.mid ≡ spec.impedance soft.now r.mid }
     ensures between { spec.LiesBetween soft.now.dmin.mid soft.now.dmax.mid result.mid }
     ensures some { pos 0 <ℤ result.mid }

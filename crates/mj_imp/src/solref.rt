@@ -163,7 +163,7 @@ fn pull(soft: &Soft, x: &Fix<32>) -> Result<Fix<32>, Over>
 fn weighted(d: &Fix<32>, r: &Fix<32>) -> Fix<32>
     requires low { pos 0 ≤ℤ d.now.mid }
     requires high { d.now.mid ≤ℤ share.one }
-    requires r { unsigned_abs r.now.mid ≤ 2 ^ 54 }
+    requires r { unsigned_abs r.now.mid ≤ 2 ^ 56 }
     ensures { result.mid ≡ share.times d.now.mid r.now.mid }
 {
     settled(&product(d.mid, r.mid))
@@ -201,7 +201,7 @@ pub fn reference(soft: &Soft, d: Fix<32>, r: Fix<32>, jv: Fix<32>) -> Result<Fix
     requires soft { IsSoft soft.now }
     requires d { pos 0 <ℤ d.mid }
     requires below_one { d.mid <ℤ share.one }
-    requires r { unsigned_abs r.mid ≤ 2 ^ 54 }
+    requires r { unsigned_abs r.mid ≤ 2 ^ 56 }
     requires jv { unsigned_abs jv.mid ≤ 2 ^ 54 }
     ensures value { IfOk result (λ x. x.mid ≡ spec.reference soft.now d.mid r.mid jv.mid) }
     ensures within { IfOk result (λ x. unsigned_abs x.mid ≤ 2 ^ 54) }
