@@ -1,3 +1,3 @@
 pub mod Products
+pub mod Actives
 pub mod Reductions
-pub mod Entries

@@ -1,6 +1,7 @@
 //! The dual of a state: each constraint's row, reduced by the factor of the mass matrix.
 #![tactic(auto)]
 
+mod active;
 mod numbers;
 mod reducing;
 #[cfg(test)]

@@ -2,8 +2,9 @@
 ghost use Rattle.std.specs.Prelude.{◌≡◌, ◌^◌, pos, neg_ℤ};
 ghost use Rattle.mj_types.specs.Parts.{plain};
 
+use crate::active::{dual_row, regularizer, right_side, wanted};
 use crate::numbers::{along, square_sum, within_regular};
-use crate::reducing::{dual_row, is_idle, regularizer, right_side, wanted};
+use crate::reducing::is_idle;
 use fx_num::{Fix, Wide};
 use mj_types::{OutOfRange, Quantity, Row, Soft, Source};
 
