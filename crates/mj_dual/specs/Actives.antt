@@ -68,11 +68,11 @@ active_fault row x diag s r j = active_fault_at (impedance s r) row x diag s r j
 
 -- ---- its row
 -- one that may be reduced
-pub record IsRow (c : Row) : Type 0 where
+pub record IsReady (c : Row) : Type 0 where
   pub soft : IsSoft c.soft
-  pub r : unsigned_abs c.r.mid ≤ 2 ^ 56
-  pub low : IsTrue (is_low (bound c.low))
-  pub high : IsTrue (is_high (bound c.high))
+  pub small : unsigned_abs c.r.mid ≤ 2 ^ 56
+  pub low_bound : IsTrue (is_low (bound c.low))
+  pub high_bound : IsTrue (is_high (bound c.high))
 
 -- what the dual holds of it, by its number, its diagonal entry and its Jacobian
 abbrev pub active_entry_at : ℤ → ℕ → Motion → ℤ → Row → (ℕ → ℤ) → DualRow

@@ -152,7 +152,7 @@ pub(crate) fn active(
     diag: &Wide<48>,
 ) -> Result<DualRow, OutOfRange>
     requires fits { Fits model.now state.now }
-    requires row { spec.IsRow row.now }
+    requires row { spec.IsReady row.now }
     requires jacobian { length jacobian.now ≡ model.now.nv }
     requires numbers { (k : ℕ) → k < model.now.nv
         → unsigned_abs (number_at jacobian.now k) ≤ 2 ^ 48 }

@@ -8,7 +8,7 @@ ghost use Rattle.mj_types.specs.Parts.{number_at};
 ghost use Rattle.mj_types.specs.States.{Fits};
 ghost use Rattle.mj_factor.specs.Solves.{half, half_fault};
 ghost use Rattle.mj_factor.specs.Stored.{IsFactor, entry};
-ghost use Rattle.mj_dual.specs.Actives.{IsRow, of_row};
+ghost use Rattle.mj_dual.specs.Actives.{IsReady, of_row};
 ghost use Rattle.mj_dual.specs.Reductions as spec;
 
 use crate::active::active;
@@ -77,7 +77,7 @@ pub fn reduce(
     requires smooth { length smooth.now ≡ model.now.nv }
     requires accelerations { (k : ℕ) → k < model.now.nv
         → unsigned_abs (number_at smooth.now k) ≤ 2 ^ 56 }
-    requires row { IsRow row.now }
+    requires row { IsReady row.now }
     requires jacobian { length jacobian.now ≡ model.now.nv }
     requires entries { (k : ℕ) → k < model.now.nv
         → unsigned_abs (number_at jacobian.now k) ≤ 2 ^ 48 }

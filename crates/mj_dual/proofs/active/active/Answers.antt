@@ -21,6 +21,6 @@ returns-clause-ranges c =
       regular = some;
       r_limit = omega (arith, ints, some, c.in_ok-r.ensures.within);
       b_limit = c.in_ok-b.ensures.within;
-      low_bound = c.requires.row.low;
-      high_bound = c.requires.row.high;
+      low_bound = c.requires.row.low_bound;
+      high_bound = c.requires.row.high_bound;
     })
