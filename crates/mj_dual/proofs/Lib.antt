@@ -1,4 +1,15 @@
 -- RegularLaws, of `regularizer` (specs/Actives)
 --   impedance_high         an impedance is at most 0.9999
 --   regular                the regularizer of a row that isn't idle is above 0
+--
+-- PassingLaws, of `passing` (specs/Passing)
+--   passing-last, -more    one place more: it passes, and the others stay
+--   passing-below, -ext    it is one of the places; tests that agree
+--
+-- EntryLaws, of `HasEntries` (specs/Entries)
+--   entries-none, -ext     no row; rows that are the same
+--   entries-skip, -push    one row more, which doesn't pass or does
+--   entries-whole          what the dual is in the end
+pub mod EntryLaws
+pub mod PassingLaws
 pub mod RegularLaws
