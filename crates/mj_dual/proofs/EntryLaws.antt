@@ -1,5 +1,5 @@
 -- A dual that holds the entries of rows: none, one row more, and what it holds in the end.
-use Rattle.std.proofs.Common.{◌≡◌, ◌≢◌, ℕ, ◌+◌, ◌*◌, ◌<◌, ◌≤◌, Bool, true, false, ℤ, pos, Option, None, List, length, set, get_or, get_or-set_same, get_or-set_other, refl, sym, ap, ap₂, ◌∙◌, subst, arith, inl, inr}
+use Rattle.std.proofs.Common.{◌≡◌, ℕ, ◌+◌, ◌<◌, Bool, true, false, ℤ, pos, Option, None, List, length, set, get_or, get_or-set_same, get_or-set_other, refl, sym, ap, ap₂, ◌∙◌, arith, inl, inr}
 use Rattle.std.proofs.lemmas.Bool.{cases_eq, cases_lt}
 use Rattle.std.proofs.Math.Path.{fun_ext}
 use Rattle.fx_whole.specs.Counting.{count_to}
@@ -7,7 +7,6 @@ use Rattle.fx_whole.specs.Entries.{below}
 use Rattle.fx_whole.proofs.CountLaws.{count_to-yes, count_to-no, count_to-ext}
 use Rattle.fx_whole.proofs.EntryLaws.{below-within, below-past}
 use Rattle.fx_num.specs.declared.number.Number.{Number}
-use Rattle.fx_num.specs.declared.number.Wide.{Wide}
 use Rattle.mj_types.specs.declared.dual.Dual.{Dual}
 use Rattle.mj_types.specs.declared.dual.DualRow.{DualRow}
 use Rattle.mj_types.specs.Duals.{bound, bound_at, entry_at, wide_at}

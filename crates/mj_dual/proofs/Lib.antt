@@ -2,6 +2,10 @@
 --   impedance_high         an impedance is at most 0.9999
 --   regular                the regularizer of a row that isn't idle is above 0
 --
+-- ReductionLaws, of `diagonal` and `reduction_fault` (specs/Reductions)
+--   diagonal_is, _whole    the diagonal entry of the numbers that were written
+--   reduction_idle, _active      the first fault of a row that is idle or not
+--
 -- PassingLaws, of `passing` (specs/Passing)
 --   passing-last, -more    one place more: it passes, and the others stay
 --   passing-below, -ext    it is one of the places; tests that agree
@@ -12,4 +16,5 @@
 --   entries-whole          what the dual is in the end
 pub mod EntryLaws
 pub mod PassingLaws
+pub mod ReductionLaws
 pub mod RegularLaws

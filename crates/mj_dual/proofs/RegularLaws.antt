@@ -1,7 +1,6 @@
 -- The regularizer of a row that isn't idle is above 0.
-use Rattle.std.proofs.Common.{◌≡◌, ◌^◌, ℤ, pos, ◌-ℤ◌, ◌*ℤ◌, ◌<ℤ◌, ◌≤ℤ◌, subst, arith}
+use Rattle.std.proofs.Common.{◌^◌, ℤ, pos, ◌-ℤ◌, ◌*ℤ◌, ◌<ℤ◌, ◌≤ℤ◌, subst, arith}
 use Rattle.std.proofs.lemmas.Int.{ints, clamps}
-use Rattle.fx_whole.specs.Nearest.{nearest}
 use Rattle.fx_whole.proofs.NearestLaws.{nearest-mono, nearest-multiple}
 use Rattle.fx_whole.proofs.Ring.{mul_mono_both}
 use Rattle.mj_types.specs.declared.parts.Soft.{Soft}

@@ -1,6 +1,6 @@
 -- A row of the dual whose diagonal entry of A = G G^T is known: its regularizer and its right side, and the first of them that is out of
 -- range. MuJoCo documentation, Computation, constraint model; scales, rounding and ranges are this project's own.
-use Rattle.std.specs.Prelude.{ℕ, ◌^◌, ◌≤◌, ℤ, pos, ◌-ℤ◌, ◌*ℤ◌, unsigned_abs, IsTrue, List, Option, Some, None}
+use Rattle.std.specs.Prelude.{ℕ, ◌^◌, ◌≤◌, ℤ, ◌-ℤ◌, ◌*ℤ◌, unsigned_abs, IsTrue, List, Option, Some, None}
 use Rattle.fx_whole.specs.First.{or_first}
 use Rattle.fx_whole.specs.Nearest.{nearest}
 use Rattle.fx_num.specs.declared.number.Number.{Number}
