@@ -13,7 +13,7 @@ use Rattle.mj_types.specs.Duals.{bound, bound_at, entry_at, wide_at}
 use Rattle.mj_types.specs.Parts.{number_at, plain}
 use Rattle.mj_types.specs.StepValues.{DualValues, dual_values}
 use Rattle.mj_dual.specs.Passing.{passing}
-use Rattle.mj_dual.specs.Entries.{Entry, HasEntries, dual_from}
+use Rattle.mj_dual.specs.Entries.{Entry, HasEntries, IsPushed, dual_from}
 use Rattle.mj_dual.proofs.PassingLaws.{passing-last, passing-more, passing-below, passing-ext}
 
 -- ---- none
@@ -68,23 +68,7 @@ entries-skip nv n p e d fails has = record {
   place = λ k h. skip_at n p (λ (i : ℕ). i + 1) fails k h _ (has.place k);
 }
 
--- ---- one row more that passes: what a push leaves
-pub record IsPushed (nv : ℕ) (numbers : List (Number (Unit {0}) 24)) (row : DualRow) (old new : Dual) : Type 0 where
-  pub dofs : new.nv ≡ old.nv
-  pub count : new.m ≡ old.m + 1
-  pub before : (i k : ℕ) → i < old.m → k < old.nv → entry_at new.nv new.g i k ≡ entry_at old.nv old.g i k
-  pub here : (k : ℕ) → k < old.nv → entry_at new.nv new.g old.m k ≡ number_at numbers k
-  pub place : new.place ≡ set old.place old.m row.place
-  pub r : new.r ≡ set old.r old.m row.r
-  pub b : new.b ≡ set old.b old.m row.b
-  pub low : new.low ≡ set old.low old.m row.low
-  pub high : new.high ≡ set old.high old.m row.high
-  pub place_room : old.m < length old.place
-  pub r_room : old.m < length old.r
-  pub b_room : old.m < length old.b
-  pub low_room : old.m < length old.low
-  pub high_room : old.m < length old.high
-
+-- ---- one row more that passes
 -- of a list after a write at the place m, which is the count of those before
 push_at : {A B : Type 0} (read : A → B) (none : A) (n : ℕ) (p : ℕ → Bool) (f : ℕ → B) (m : ℕ) (old new : List A) (x : A) → p n ≡ true → m ≡ count_to n p
     → new ≡ set old m x → m < length old → read x ≡ f n → ((k : ℕ) → k < count_to n p → read (get_or old k none) ≡ f (passing n p k))
@@ -102,7 +86,7 @@ push_at read none n p f m old new x passes count is room here before k h =
     ]
 
 pub entries-push : (nv n : ℕ) (p : ℕ → Bool) (e : ℕ → Entry) (numbers : List (Number (Unit {0}) 24)) (row : DualRow) (old new : Dual) → p n ≡ true
-    → HasEntries nv n p e old → IsPushed nv numbers row old new
+    → HasEntries nv n p e old → IsPushed numbers row old new
     → ((j : ℕ) → j < nv → number_at numbers j ≡ (e n).g j) → row.r.raw ≡ (e n).r → row.b.mid ≡ (e n).b → bound row.low ≡ (e n).low → bound row.high ≡ (e n).high → row.place ≡ n + 1
     → HasEntries nv (n + 1) p e new
 entries-push nv n p e numbers row old new passes has put here r b low high place = record {

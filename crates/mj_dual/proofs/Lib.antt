@@ -14,7 +14,13 @@
 --   entries-none, -ext     no row; rows that are the same
 --   entries-skip, -push    one row more, which doesn't pass or does
 --   entries-whole          what the dual is in the end
+--
+-- TakingLaws, of `HasAdded` (specs/Taking)
+--   faults-append, -whole  the first fault of two parts, and of all rows
+--   added-none, -refused, -then, -stop      nothing is taken; two parts one after the other; a fault ends it early
+--   turn-start, -more, -stop, -spare        a loop that takes part after part
 pub mod EntryLaws
 pub mod PassingLaws
 pub mod ReductionLaws
 pub mod RegularLaws
+pub mod TakingLaws

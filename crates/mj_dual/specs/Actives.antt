@@ -1,6 +1,6 @@
 -- A row of the dual whose diagonal entry of A = G G^T is known: its regularizer and its right side, and the first of them that is out of
 -- range. MuJoCo documentation, Computation, constraint model; scales, rounding and ranges are this project's own.
-use Rattle.std.specs.Prelude.{ℕ, ◌^◌, ◌≤◌, ℤ, ◌-ℤ◌, ◌*ℤ◌, unsigned_abs, IsTrue, List, Option, Some, None}
+use Rattle.std.specs.Prelude.{ℕ, ◌^◌, ℤ, ◌-ℤ◌, ◌*ℤ◌, List, Option, Some, None}
 use Rattle.fx_whole.specs.First.{or_first}
 use Rattle.fx_whole.specs.Nearest.{nearest}
 use Rattle.fx_num.specs.declared.number.Number.{Number}
@@ -12,8 +12,6 @@ use Rattle.mj_types.specs.declared.range.Quantity.{Quantity}
 use Rattle.mj_types.specs.declared.range.Quantity.TheVariants as kind
 use Rattle.mj_types.specs.declared.rows.Row.{Row}
 use Rattle.mj_types.specs.declared.state.State.{State}
-use Rattle.mj_types.specs.Duals.{is_low, is_high, bound}
-use Rattle.mj_types.specs.Lawful.{IsSoft}
 use Rattle.mj_types.specs.Parts.{number_at, plain}
 use Rattle.mj_types.specs.Ranges.{limited}
 use Rattle.mj_imp.specs.Impedance.{one, impedance}
@@ -67,13 +65,6 @@ abbrev pub active_fault : ℕ → Motion → ℤ → Soft → ℤ → (ℕ → �
 active_fault row x diag s r j = active_fault_at (impedance s r) row x diag s r j
 
 -- ---- its row
--- one that may be reduced
-pub record IsReady (c : Row) : Type 0 where
-  pub soft : IsSoft c.soft
-  pub small : unsigned_abs c.r.mid ≤ 2 ^ 56
-  pub low_bound : IsTrue (is_low (bound c.low))
-  pub high_bound : IsTrue (is_high (bound c.high))
-
 -- what the dual holds of it, by its number, its diagonal entry and its Jacobian
 abbrev pub active_entry_at : ℤ → ℕ → Motion → ℤ → Row → (ℕ → ℤ) → DualRow
 active_entry_at d row x diag c j = record {

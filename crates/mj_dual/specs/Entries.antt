@@ -1,9 +1,11 @@
 -- The problem that is made of the rows that pass a test, in their order.
-use Rattle.std.specs.Prelude.{◌≡◌, ℕ, ◌+◌, ◌<◌, Bool, ℤ, Option, slice_index_or}
+use Rattle.std.specs.Prelude.{◌≡◌, ℕ, ◌+◌, ◌<◌, Bool, ℤ, List, length, slice_set, Option, slice_index_or}
 use Rattle.fx_whole.specs.Counting.{count_to}
 use Rattle.fx_whole.specs.Entries.{below}
+use Rattle.fx_num.specs.declared.number.Number.{Number}
 use Rattle.mj_optimum.specs.Problem.{Problem}
 use Rattle.mj_types.specs.declared.dual.Dual.{Dual}
+use Rattle.mj_types.specs.declared.dual.DualRow.{DualRow}
 use Rattle.mj_types.specs.Duals.{wide_at, bound_at, entry_at}
 use Rattle.mj_types.specs.Parts.{number_at}
 use Rattle.mj_types.specs.StepValues.{DualValues, own}
@@ -43,3 +45,20 @@ pub record HasEntries (nv n : ℕ) (p : ℕ → Bool) (e : ℕ → Entry) (d : D
   pub low_bound : (k : ℕ) → k < count_to n p → bound_at d.low k ≡ (e (passing n p k)).low
   pub high_bound : (k : ℕ) → k < count_to n p → bound_at d.high k ≡ (e (passing n p k)).high
   pub place : (k : ℕ) → k < count_to n p → slice_index_or d.place k 0 ≡ passing n p k + 1
+
+-- ---- what a push leaves
+pub record IsPushed (numbers : List (Number (Unit {0}) 24)) (row : DualRow) (old new : Dual) : Type 0 where
+  pub dofs : new.nv ≡ old.nv
+  pub count : new.m ≡ old.m + 1
+  pub before : (i k : ℕ) → i < old.m → k < old.nv → entry_at new.nv new.g i k ≡ entry_at old.nv old.g i k
+  pub here : (k : ℕ) → k < old.nv → entry_at new.nv new.g old.m k ≡ number_at numbers k
+  pub place : new.place ≡ slice_set old.place old.m row.place
+  pub r : new.r ≡ slice_set old.r old.m row.r
+  pub b : new.b ≡ slice_set old.b old.m row.b
+  pub low : new.low ≡ slice_set old.low old.m row.low
+  pub high : new.high ≡ slice_set old.high old.m row.high
+  pub place_room : old.m < length old.place
+  pub r_room : old.m < length old.r
+  pub b_room : old.m < length old.b
+  pub low_room : old.m < length old.low
+  pub high_room : old.m < length old.high

@@ -1,5 +1,10 @@
 pub mod Actives
+pub mod Assembly
 pub mod Entries
 pub mod Passing
 pub mod Products
 pub mod Reductions
+pub mod StubConstraint
+pub mod StubConstraints
+pub mod StubWorking
+pub mod Taking

@@ -7,6 +7,7 @@ ghost use Rattle.mj_types.specs.Lawful.{IsSoft};
 ghost use Rattle.mj_types.specs.Parts.{number_at};
 ghost use Rattle.mj_types.specs.Ranges as ranges;
 ghost use Rattle.mj_types.specs.States.{Fits};
+ghost use Rattle.mj_dual.specs.StubWorking.{IsReady};
 ghost use Rattle.mj_imp.specs.Impedance as imp;
 ghost use Rattle.mj_imp.specs.Reference as solref;
 ghost use Rattle.mj_dual.specs.Products.{along};
@@ -152,7 +153,7 @@ pub(crate) fn active(
     diag: &Wide<48>,
 ) -> Result<DualRow, OutOfRange>
     requires fits { Fits model.now state.now }
-    requires row { spec.IsReady row.now }
+    requires row { IsReady row.now }
     requires jacobian { length jacobian.now ≡ model.now.nv }
     requires numbers { (k : ℕ) → k < model.now.nv
         → unsigned_abs (number_at jacobian.now k) ≤ 2 ^ 48 }
