@@ -23,4 +23,5 @@ pub mod EntryLaws
 pub mod PassingLaws
 pub mod ReductionLaws
 pub mod RegularLaws
+pub mod RowLaws
 pub mod TakingLaws

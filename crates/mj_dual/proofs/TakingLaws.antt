@@ -80,7 +80,7 @@ module _ (m : Model) (y : Dynamics) where
       → HasAdded m y (joined i part) None a b d e → HasAdded m y (part i) (Some x) b c e f → HasAdded m y (joined n part) (Some x) a c d f
   turn-stop a b c d e f i n part x h one two =
       let whole : joined n part ≡ joined (i + 1) part ++ joined (n - (i + 1)) (λ k. part (i + 1 + k)) =
-          (let s : n ≡ i + 1 + (n - (i + 1)) = omega arith in ap (λ (k : ℕ). joined k part) s ∙ joined-split (i + 1) (n - (i + 1)) part) in
+      (let s : n ≡ i + 1 + (n - (i + 1)) = omega arith in ap (λ (k : ℕ). joined k part) s ∙ joined-split (i + 1) (n - (i + 1)) part) in
       subst (λ z. HasAdded m y z (Some x) a c d f) (sym whole)
       (added-stop a c d f (joined (i + 1) part) (joined (n - (i + 1)) (λ k. part (i + 1 + k))) x (turn-more a b c d e f i part (Some x) one two))
 

@@ -1,9 +1,10 @@
 -- While rows are taken one after another into the list and the dual.
-use Rattle.std.specs.Prelude.{◌≡◌, ℕ, ◌+◌, ◌*◌, ◌^◌, ◌<◌, ◌≤◌, unsigned_abs, List, length, ◌++◌, Option, None}
+use Rattle.std.specs.Prelude.{◌≡◌, ℕ, ◌+◌, ◌*◌, ◌^◌, ◌<◌, ◌≤◌, unsigned_abs, List, length, ◌++◌, Option, Some, None}
 use Rattle.fx_whole.specs.First.{first_to}
 use Rattle.fx_num.specs.declared.number.Number.{Number}
 use Rattle.mj_types.specs.declared.carriers.Factor.{Factor}
 use Rattle.mj_types.specs.declared.dual.Dual.{Dual}
+use Rattle.mj_types.specs.declared.dual.DualRow.{DualRow}
 use Rattle.mj_types.specs.declared.model.Model.{Model}
 use Rattle.mj_types.specs.declared.range.OutOfRange.{OutOfRange}
 use Rattle.mj_types.specs.declared.rows.Rows.{Rows}
@@ -15,7 +16,7 @@ use Rattle.mj_types.specs.States.{Fits}
 use Rattle.mj_factor.specs.Stored.{IsFactor}
 use Rattle.mj_dual.specs.StubConstraint.{Constraint}
 use Rattle.mj_dual.specs.Reductions.{Dynamics}
-use Rattle.mj_dual.specs.Entries.{HasEntries}
+use Rattle.mj_dual.specs.Entries.{HasEntries, IsPushed}
 use Rattle.mj_dual.specs.Assembly.{constraint, constraint_fault, row_list, is_active, entry_at_place, HasJacobians}
 
 -- ---- what rows can be reduced with: a state of the model, the factor of its mass matrix, and an acceleration
@@ -48,3 +49,8 @@ pub record HasAdded (m : Model) (y : Dynamics) (part : List Constraint) (fault :
   pub first : fault ≡ faults_from (length rows.list.list) y part
   pub count : fault ≡ None → length rows'.list.list ≡ length rows.list.list + length part
   pub taken : fault ≡ None → (cs : List Constraint) → HasTaken m y cs rows d → HasTaken m y (cs ++ part) rows' d'
+
+-- ---- a row's entry, where it has one, is held behind the others
+abbrev pub IsHeld : Option DualRow → List (Number (Unit {0}) 24) → Dual → Dual → Type 0
+IsHeld None g old new = new ≡ old
+IsHeld (Some row) g old new = IsPushed g row old new

@@ -4,6 +4,7 @@
 mod active;
 mod numbers;
 mod reducing;
+mod taking;
 #[cfg(test)]
 mod tests;
 
