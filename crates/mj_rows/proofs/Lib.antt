@@ -1,0 +1,3 @@
+pub mod JointLaws
+pub mod SizeLaws
+pub mod RowLaws

@@ -5,8 +5,9 @@ use Rattle.fx_whole.specs.Sums.{when}
 use Rattle.fx_num.specs.Settled.{settled_mid}
 use Rattle.mj_types.specs.declared.model.Model.{Model}
 use Rattle.mj_types.specs.declared.parts.Equality.{Equality}
-use Rattle.mj_types.specs.declared.parts.Joint.{Joint}
+use Rattle.mj_types.specs.declared.parts.Soft.{Soft}
 use Rattle.mj_types.specs.declared.state.State.{State}
+use Rattle.mj_types.specs.declared.rows.Source.{Source}
 use Rattle.mj_types.specs.declared.rows.Source.TheVariants as source
 use Rattle.mj_types.specs.Parts.{joint, equality, number_at}
 use Rattle.mj_rows.specs.Constraint.{Constraint, no_lever}
@@ -57,11 +58,11 @@ has_friction m j = int_lt (pos 0) (joint m.joints j).frictionloss.mid
 abbrev pub most_friction : Model → ℕ → ℤ
 most_friction m j = settled_mid (joint m.joints j).frictionloss.mid 12
 
-abbrev pub friction_with : Joint → ℕ → ℤ → (ℕ → ℤ) → Constraint
-friction_with x j most slope = record {
-  source = source.Friction (j + 1);
+abbrev pub friction_with : Source → Soft → ℤ → (ℕ → ℤ) → Constraint
+friction_with from soft_ most slope = record {
+  source = from;
   r = pos 0;
-  soft = x.soft_friction;
+  soft = soft_;
   low = Some (neg_ℤ most);
   high = Some most;
   lever = no_lever;
@@ -69,7 +70,7 @@ friction_with x j most slope = record {
 }
 
 unfoldable pub friction_of : Model → ℕ → Constraint
-friction_of m j = friction_with (joint m.joints j) j (most_friction m j) (at_joint m j one)
+friction_of m j = friction_with (source.Friction (j + 1)) (joint m.joints j).soft_friction (most_friction m j) (at_joint m j one)
 
 abbrev pub frictions : Model → ℕ → List Constraint
 frictions m j = cond (has_friction m j) (friction_of m j ∷ []) []

@@ -6,3 +6,4 @@ pub mod Mixing
 pub mod Edges
 pub mod Constraints
 pub mod Working
+pub mod Slopes

@@ -11,7 +11,8 @@ ghost use Rattle.mj_contact.specs.Sizes.{IsUsable};
 ghost use Rattle.mj_rows.specs.Constraint.{row_of, row_fault};
 ghost use Rattle.mj_rows.specs.Edges as spec;
 ghost use Rattle.mj_rows.specs.Mixing as mixing;
-ghost use Rattle.mj_rows.specs.Working.{IsReady, IsWritten, AreSlopes, slope_at};
+ghost use Rattle.mj_rows.specs.Slopes.{AreSlopes, slope_at};
+ghost use Rattle.mj_rows.specs.Working.{IsReady, IsWritten};
 
 use crate::mixing::{geom_of, is_smooth, larger, mixed};
 use crate::slopes::Slope;

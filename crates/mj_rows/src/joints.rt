@@ -1,9 +1,9 @@
 // Equalities of joints, and the friction of joints.
-ghost use Rattle.std.specs.Prelude.{◌≡◌, ℕ, ◌-◌, ◌^◌, ◌<◌, ◌≤◌, ℤ, ◌-ℤ◌, ◌*ℤ◌, pos, neg_ℤ, false, ◌≤ℤ◌, unsigned_abs, length, IfOk, OnOk};
+ghost use Rattle.std.specs.Prelude.{◌≡◌, ℕ, ◌-◌, ◌^◌, ◌<◌, ◌≤◌, ℤ, ◌-ℤ◌, ◌*ℤ◌, pos, neg_ℤ, false, ◌≤ℤ◌, unsigned_abs, int_lt, length, IfOk, OnOk};
 ghost use Rattle.fx_whole.specs.First.{refusal_of};
 ghost use Rattle.fx_num.specs.Settled.{settled_mid};
 ghost use Rattle.mj_types.specs.declared.range.Quantity.TheVariants as kind;
-ghost use Rattle.mj_types.specs.Lawful.{IsEquality, IsJoint};
+ghost use Rattle.mj_types.specs.Lawful.{IsEquality, IsSoft};
 ghost use Rattle.mj_types.specs.Parts.{joint as joint_at, number_at};
 ghost use Rattle.mj_types.specs.Ranges.{limited};
 ghost use Rattle.mj_types.specs.States.{Fits};
@@ -14,7 +14,7 @@ ghost use Rattle.mj_rows.specs.Working.{IsReady, IsWritten};
 use crate::jacobian::{add_at, clear};
 use fx_num::{Fix, Number, Wide, narrow_within};
 use fx_whole::{difference, narrow, nearest_shift, product};
-use mj_types::{Equality, Joint, Model, OutOfRange, Quantity, Row, Source, State};
+use mj_types::{Equality, Model, OutOfRange, Quantity, Row, Soft, Source, State};
 
 /// The place of a joint's first dof.
 pub(crate) fn dof_of(model: &Model, j: usize) -> usize
@@ -142,7 +142,8 @@ fn add_following(model: &Model, equality: &Equality, jacobian: &mut [Fix<32>])
 // `-n`.
 fn negative(n: &Fix<32>) -> Fix<32>
     requires { unsigned_abs n.now.mid ≤ 2 ^ 42 }
-    ensures { result.mid ≡ neg_ℤ n.now.mid }
+    ensures value { result.mid ≡ neg_ℤ n.now.mid }
+    ensures size { unsigned_abs result.mid ≤ 2 ^ 42 }
 {
     Fix::from_raw(-n.mid)
 }
@@ -184,6 +185,7 @@ pub fn equality(
     ensures first { refusal_of result
         ≡ row_fault model.now.nv number (spec.equality_of model.now state.now e) }
 {
+    let _count = model.equalities.len();
     let equality = model.equalities.entry(e);
     let r = violation(model, state, equality, number)?;
     write_equality(model, equality, jacobian);
@@ -202,7 +204,14 @@ pub fn has_friction(model: &Model, j: usize) -> bool
     requires { j < length model.now.joints }
     ensures { result ≡ spec.has_friction model.now j }
 {
-    model.joints.entry(j).frictionloss.mid > 0
+    is_positive(&model.joints.entry(j).frictionloss)
+}
+
+// Whether `n` is more than 0.
+fn is_positive(n: &Fix<32>) -> bool
+    ensures { result ≡ int_lt (pos 0) n.now.mid }
+{
+    n.mid > 0
 }
 
 // The greatest friction, at scale 20.
@@ -225,19 +234,18 @@ fn least_friction(most: &Fix<20>) -> Fix<20>
 }
 
 // The row of a joint's friction, from its greatest.
-fn friction_row(joint: &Joint, j: usize, most: &Fix<20>) -> Row
-    requires joint { IsJoint joint.now }
+fn friction_row(source: Source, soft: &Soft, most: &Fix<20>) -> Row
+    requires soft { IsSoft soft.now }
     requires some { pos 0 ≤ℤ most.now.mid }
     requires small { unsigned_abs most.now.mid ≤ 2 ^ 41 }
-    requires few { j < 64 }
     ensures row { (slope : ℕ → ℤ) → result
-        ≡ row_of false (spec.friction_with joint.now j most.now.mid slope) }
+        ≡ row_of false (spec.friction_with source soft.now most.now.mid slope) }
     ensures ready { IsReady result }
 {
     Row {
-        source: Source::Friction(j + 1),
+        source,
         r: Fix::from_raw(0),
-        soft: joint.soft_friction,
+        soft: *soft,
         idle: false,
         low: Some(least_friction(most)),
         high: Some(*most),
@@ -256,6 +264,8 @@ pub fn friction(model: &Model, j: usize, jacobian: &mut [Fix<32>]) -> Row
         ≡ None }
 {
     write_joint(model, j, &Fix::from_raw(1 << 32), jacobian);
+    let _count = model.joints.len();
     let joint = model.joints.entry(j);
-    friction_row(joint, j, &most_friction(&joint.frictionloss))
+    let most = most_friction(&joint.frictionloss);
+    friction_row(Source::Friction(j + 1), &joint.soft_friction, &most)
 }

@@ -12,7 +12,7 @@ ghost use Rattle.mj_types.specs.Ranges.{is_within, unless};
 ghost use Rattle.mj_contact.specs.Sizes.{IsUsable};
 ghost use Rattle.mj_rows.specs.Constraint as constraint;
 ghost use Rattle.mj_rows.specs.Edges as spec;
-ghost use Rattle.mj_rows.specs.Working.{exact};
+ghost use Rattle.mj_rows.specs.Slopes.{exact};
 
 use fx_num::{Fix, Plain, Wide};
 use fx_vec::{Sp6, V3, Vector3, minus};

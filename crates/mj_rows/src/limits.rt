@@ -25,22 +25,39 @@ pub(crate) struct Extent {
     pub(crate) value: Fix<32>,
 }
 
-// The ends of a range, and 0 where there is none.
-fn least(range: &Option<Range>) -> Fix<32>
-    ensures { result.mid ≡ spec.least_of range.now }
+// The ends of its range, and 0 where there is none.
+fn least(x: &Extent) -> Fix<32>
+    requires { IsExtent x.now }
+    ensures value { result.mid ≡ spec.least_of x.now.range }
+    ensures small { unsigned_abs result.mid ≤ 2 ^ 52 }
 {
-    match range {
+    match x.range {
         Some(range) => range.least,
         None => Fix::from_raw(0),
     }
 }
 
-fn greatest(range: &Option<Range>) -> Fix<32>
-    ensures { result.mid ≡ spec.greatest_of range.now }
+fn greatest(x: &Extent) -> Fix<32>
+    requires { IsExtent x.now }
+    ensures value { result.mid ≡ spec.greatest_of x.now.range }
+    ensures small { unsigned_abs result.mid ≤ 2 ^ 52 }
 {
-    match range {
+    match x.range {
         Some(range) => range.greatest,
         None => Fix::from_raw(0),
+    }
+}
+
+// `a - b`.
+fn less(a: &Fix<32>, b: &Fix<32>) -> Fix<32>
+    requires a { unsigned_abs a.now.mid ≤ 2 ^ 60 }
+    requires b { unsigned_abs b.now.mid ≤ 2 ^ 60 }
+    ensures value { result.mid ≡ a.now.mid -ℤ b.now.mid }
+    ensures size { unsigned_abs result.mid ≤ unsigned_abs a.now.mid + unsigned_abs b.now.mid }
+{
+    Number {
+        mid: a.mid - b.mid,
+        rad: (),
     }
 }
 
@@ -50,10 +67,7 @@ fn above_least(x: &Extent) -> Fix<32>
     ensures value { result.mid ≡ spec.above_least x.now }
     ensures small { unsigned_abs result.mid ≤ 2 ^ 53 }
 {
-    Number {
-        mid: x.value.mid - least(&x.range).mid,
-        rad: (),
-    }
+    less(&x.value, &least(x))
 }
 
 // How far it is below the greatest.
@@ -62,10 +76,7 @@ fn below_greatest(x: &Extent) -> Fix<32>
     ensures value { result.mid ≡ spec.below_greatest x.now }
     ensures small { unsigned_abs result.mid ≤ 2 ^ 53 }
 {
-    Number {
-        mid: greatest(&x.range).mid - x.value.mid,
-        rad: (),
-    }
+    less(&greatest(x), &x.value)
 }
 
 // Whether the limit at the least stands.
@@ -84,19 +95,6 @@ fn is_high(x: &Extent) -> bool
     x.range.is_some() && below_greatest(x).mid < x.margin.mid
 }
 
-// `distance - margin`.
-fn inside(distance: &Fix<32>, margin: &Fix<32>) -> Fix<32>
-    requires distance { unsigned_abs distance.now.mid ≤ 2 ^ 53 }
-    requires margin { unsigned_abs margin.now.mid ≤ 2 ^ 42 }
-    ensures value { result.mid ≡ distance.now.mid -ℤ margin.now.mid }
-    ensures small { unsigned_abs result.mid ≤ 2 ^ 54 }
-{
-    Number {
-        mid: distance.mid - margin.mid,
-        rad: (),
-    }
-}
-
 // The row of a limit.
 fn limit(source: Source, x: &Extent, distance: &Fix<32>) -> Row
     requires extent { IsExtent x.now }
@@ -107,7 +105,7 @@ fn limit(source: Source, x: &Extent, distance: &Fix<32>) -> Row
 {
     Row {
         source,
-        r: inside(distance, &x.margin),
+        r: less(distance, &x.margin),
         soft: x.soft,
         idle: false,
         low: Some(Fix::from_raw(0)),
@@ -164,6 +162,7 @@ pub fn low(model: &Model, state: &State, j: usize, jacobian: &mut [Fix<32>]) -> 
         (spec.low_limit model.now state.now j) ≡ None }
 {
     write_joint(model, j, &Fix::from_raw(1 << 32), jacobian);
+    let _count = model.joints.len();
     let extent = joint_extent(model, state, j);
     limit(Source::Low(j + 1), &extent, &above_least(&extent))
 }
@@ -181,6 +180,7 @@ pub fn high(model: &Model, state: &State, j: usize, jacobian: &mut [Fix<32>]) ->
         (spec.high_limit model.now state.now j) ≡ None }
 {
     write_joint(model, j, &Fix::from_raw(-(1 << 32)), jacobian);
+    let _count = model.joints.len();
     let extent = joint_extent(model, state, j);
     limit(Source::High(j + 1), &extent, &below_greatest(&extent))
 }
@@ -264,6 +264,7 @@ pub fn tendon_low(model: &Model, applied: &Applied, t: usize, jacobian: &mut [Fi
         (spec.tendon_low_limit model.now (number_at applied.now.length) t) ≡ None }
 {
     write_terms(model, &model.tendons.entry(t).terms, jacobian);
+    let _count = model.tendons.len();
     let extent = tendon_extent(model, applied, t);
     limit(Source::TendonLow(t + 1), &extent, &above_least(&extent))
 }
@@ -284,6 +285,7 @@ pub fn tendon_high(model: &Model, applied: &Applied, t: usize, jacobian: &mut [F
 {
     write_terms(model, &model.tendons.entry(t).terms, jacobian);
     negate(jacobian);
+    let _count = model.tendons.len();
     let extent = tendon_extent(model, applied, t);
     limit(Source::TendonHigh(t + 1), &extent, &below_greatest(&extent))
 }

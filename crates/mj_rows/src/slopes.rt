@@ -11,7 +11,7 @@ ghost use Rattle.mj_contact.specs.Sizes.{IsUsable};
 ghost use Rattle.mj_rows.specs.Constraint as constraint;
 ghost use Rattle.mj_rows.specs.Edges as spec;
 ghost use Rattle.mj_rows.specs.Mixing.{first_geom, second_geom};
-ghost use Rattle.mj_rows.specs.Working.{IsSlope, AreSlopes};
+ghost use Rattle.mj_rows.specs.Slopes.{IsSlope, AreSlopes};
 
 use crate::levers::lever_of;
 use crate::mixing::geom_of;
