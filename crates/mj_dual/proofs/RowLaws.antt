@@ -15,7 +15,7 @@ use Rattle.mj_types.specs.declared.rows.Row.{Row}
 use Rattle.mj_types.specs.declared.rows.Rows.{Rows}
 use Rattle.mj_types.specs.Duals.{bound, entry_at}
 use Rattle.mj_types.specs.Parts.{number_at, plain}
-use Rattle.mj_dual.specs.StubConstraint.{Constraint, force, row_of, row_fault}
+use Rattle.mj_rows.specs.Constraint.{Constraint, force, row_of, row_fault}
 use Rattle.mj_dual.specs.Actives.{active_entry}
 use Rattle.mj_dual.specs.Reductions.{Dynamics, reduced, diagonal, is_idle, row_entry, reduction_fault}
 use Rattle.mj_dual.specs.Entries.{Entry, HasEntries, IsPushed}

@@ -9,7 +9,7 @@ use Rattle.mj_types.specs.declared.dual.Dual.{Dual}
 use Rattle.mj_types.specs.declared.model.Model.{Model}
 use Rattle.mj_types.specs.declared.range.OutOfRange.{OutOfRange}
 use Rattle.mj_types.specs.declared.rows.Rows.{Rows}
-use Rattle.mj_dual.specs.StubConstraint.{Constraint}
+use Rattle.mj_rows.specs.Constraint.{Constraint}
 use Rattle.mj_dual.specs.Reductions.{Dynamics}
 use Rattle.mj_dual.specs.Assembly.{no_constraint, constraint, constraint_fault, rows_fault}
 use Rattle.mj_dual.specs.Taking.{CanTake, HasTaken, HasAdded, faults_from}

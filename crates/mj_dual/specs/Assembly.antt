@@ -10,8 +10,8 @@ use Rattle.mj_types.specs.declared.rows.Source.TheVariants as source
 use Rattle.mj_types.specs.Duals.{entry_at}
 use Rattle.mj_types.specs.Parts.{no_soft}
 use Rattle.mj_types.specs.StepValues.{DualValues}
-use Rattle.mj_dual.specs.StubConstraint.{Constraint, no_lever, row_of, row_fault}
-use Rattle.mj_dual.specs.StubConstraints.{constraints_fault}
+use Rattle.mj_rows.specs.Constraint.{Constraint, no_lever, row_of, row_fault}
+use Rattle.mj_rows.specs.Constraints.{constraints_fault}
 use Rattle.mj_imp.specs.Impedance.{impedance}
 use Rattle.mj_dual.specs.Actives.{regularizer, right_side}
 use Rattle.mj_dual.specs.Reductions.{Dynamics, reduced, diagonal, is_idle, reduction_fault}

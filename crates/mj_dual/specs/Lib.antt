@@ -4,7 +4,4 @@ pub mod Entries
 pub mod Passing
 pub mod Products
 pub mod Reductions
-pub mod StubConstraint
-pub mod StubConstraints
-pub mod StubWorking
 pub mod Taking

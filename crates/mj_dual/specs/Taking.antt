@@ -14,7 +14,7 @@ use Rattle.mj_types.specs.Problems.{HasRoom}
 use Rattle.mj_types.specs.RowRooms.{RowsRoom}
 use Rattle.mj_types.specs.States.{Fits}
 use Rattle.mj_factor.specs.Stored.{IsFactor}
-use Rattle.mj_dual.specs.StubConstraint.{Constraint}
+use Rattle.mj_rows.specs.Constraint.{Constraint}
 use Rattle.mj_dual.specs.Reductions.{Dynamics}
 use Rattle.mj_dual.specs.Entries.{HasEntries, IsPushed}
 use Rattle.mj_dual.specs.Assembly.{constraint, constraint_fault, row_list, is_active, entry_at_place, HasJacobians}

@@ -7,7 +7,7 @@ ghost use Rattle.mj_types.specs.Lawful.{IsSoft};
 ghost use Rattle.mj_types.specs.Parts.{number_at};
 ghost use Rattle.mj_types.specs.Ranges as ranges;
 ghost use Rattle.mj_types.specs.States.{Fits};
-ghost use Rattle.mj_dual.specs.StubWorking.{IsReady};
+ghost use Rattle.mj_rows.specs.Working.{IsReady};
 ghost use Rattle.mj_imp.specs.Impedance as imp;
 ghost use Rattle.mj_imp.specs.Reference as solref;
 ghost use Rattle.mj_dual.specs.Products.{along};

@@ -2,9 +2,11 @@
 #![tactic(auto)]
 
 mod active;
+mod joints;
 mod numbers;
 mod reducing;
 mod taking;
+mod tendons;
 #[cfg(test)]
 mod tests;
 

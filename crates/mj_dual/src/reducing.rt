@@ -8,7 +8,7 @@ ghost use Rattle.mj_types.specs.Parts.{number_at};
 ghost use Rattle.mj_types.specs.States.{Fits};
 ghost use Rattle.mj_factor.specs.Solves.{half, half_fault};
 ghost use Rattle.mj_factor.specs.Stored.{IsFactor, entry};
-ghost use Rattle.mj_dual.specs.StubWorking.{IsReady};
+ghost use Rattle.mj_rows.specs.Working.{IsReady};
 ghost use Rattle.mj_dual.specs.Actives.{of_row};
 ghost use Rattle.mj_dual.specs.Reductions as spec;
 

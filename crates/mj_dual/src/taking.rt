@@ -4,8 +4,8 @@ ghost use Rattle.fx_whole.specs.First.{refusal_of};
 ghost use Rattle.mj_types.specs.Duals.{MayBeRow};
 ghost use Rattle.mj_types.specs.Parts.{number_at};
 ghost use Rattle.mj_types.specs.Problems.{HasSpare, HaveSameRoom};
-ghost use Rattle.mj_dual.specs.StubConstraint.{Constraint, row_of, row_fault};
-ghost use Rattle.mj_dual.specs.StubWorking.{IsReady};
+ghost use Rattle.mj_rows.specs.Constraint.{Constraint, row_of, row_fault};
+ghost use Rattle.mj_rows.specs.Working.{IsReady};
 ghost use Rattle.mj_dual.specs.Reductions.{dynamics};
 ghost use Rattle.mj_dual.specs.Taking as spec;
 
