@@ -147,6 +147,13 @@ pub one-refused : (m : Model) (y : Dynamics) (c : Constraint) (row : Row) (rows 
 one-refused m y c row rows d number j e open_ is whole at passed first =
     added-refused m y rows d (c ∷ []) e open_ (fault-of y c row (length rows.list.list) number j (Some e) is whole at passed first)
 
+-- it is refused before that
+pub one-out : (m : Model) (y : Dynamics) (c : Constraint) (rows : Rows) (d : Dual) (number : ℕ) (e : OutOfRange) → CanTake m rows d → number ≡ length rows.list.list + 1
+    → Some e ≡ row_fault y.motion.dofs number c → HasAdded m y (c ∷ []) (Some e) rows rows d d
+one-out m y c rows d number e open_ at first =
+    added-refused m y rows d (c ∷ []) e open_
+    (fault-stops (length rows.list.list + 1) y c e (first ∙ ap (λ (k : ℕ). row_fault y.motion.dofs k c) at) ∙ sym (faults-one (length rows.list.list) y c))
+
 -- it is taken
 none-idle : (b : Bool) (x : DualRow) → is_none (cond b None (Some x)) ≡ b
 none-idle true x = refl

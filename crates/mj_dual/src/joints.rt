@@ -64,7 +64,9 @@ pub(crate) fn take_equalities(
         (refusal_of result) rows.old rows.new out.old out.new }
 {
     for e in 0..model.equalities.len() {
-        take_equality(model, state, factor, smooth, e, jacobian, reduced, rows, out)?;
+        take_equality(
+            model, state, factor, smooth, e, jacobian, reduced, rows, out,
+        )?;
     }
     Ok(())
 }
@@ -92,13 +94,14 @@ fn take_friction(
         (frictions model.now j)
         (refusal_of result) rows.old rows.new out.old out.new }
 {
-    if !has_friction(model, j) {
-        return Ok(());
+    if has_friction(model, j) {
+        let row = friction(model, j, jacobian);
+        take_row(
+            model, state, factor, smooth, &row, jacobian, reduced, rows, out,
+        )
+    } else {
+        Ok(())
     }
-    let row = friction(model, j, jacobian);
-    take_row(
-        model, state, factor, smooth, &row, jacobian, reduced, rows, out,
-    )
 }
 
 /// Takes the rows of all joints' friction.
@@ -123,7 +126,9 @@ pub(crate) fn take_frictions(
         (refusal_of result) rows.old rows.new out.old out.new }
 {
     for j in 0..model.joints.len() {
-        take_friction(model, state, factor, smooth, j, jacobian, reduced, rows, out)?;
+        take_friction(
+            model, state, factor, smooth, j, jacobian, reduced, rows, out,
+        )?;
     }
     Ok(())
 }
@@ -151,13 +156,14 @@ fn take_low(
         (low_limits model.now state.now j)
         (refusal_of result) rows.old rows.new out.old out.new }
 {
-    if !has_low(model, state, j) {
-        return Ok(());
+    if has_low(model, state, j) {
+        let row = low(model, state, j, jacobian);
+        take_row(
+            model, state, factor, smooth, &row, jacobian, reduced, rows, out,
+        )
+    } else {
+        Ok(())
     }
-    let row = low(model, state, j, jacobian);
-    take_row(
-        model, state, factor, smooth, &row, jacobian, reduced, rows, out,
-    )
 }
 
 // Takes the row of a joint's high limit, where it stands.
@@ -183,13 +189,14 @@ fn take_high(
         (high_limits model.now state.now j)
         (refusal_of result) rows.old rows.new out.old out.new }
 {
-    if !has_high(model, state, j) {
-        return Ok(());
+    if has_high(model, state, j) {
+        let row = high(model, state, j, jacobian);
+        take_row(
+            model, state, factor, smooth, &row, jacobian, reduced, rows, out,
+        )
+    } else {
+        Ok(())
     }
-    let row = high(model, state, j, jacobian);
-    take_row(
-        model, state, factor, smooth, &row, jacobian, reduced, rows, out,
-    )
 }
 
 // Takes the rows of a joint's limits.
@@ -215,8 +222,12 @@ fn take_limits(
         (joint_limits model.now state.now j)
         (refusal_of result) rows.old rows.new out.old out.new }
 {
-    take_low(model, state, factor, smooth, j, jacobian, reduced, rows, out)?;
-    take_high(model, state, factor, smooth, j, jacobian, reduced, rows, out)?;
+    take_low(
+        model, state, factor, smooth, j, jacobian, reduced, rows, out,
+    )?;
+    take_high(
+        model, state, factor, smooth, j, jacobian, reduced, rows, out,
+    )?;
     Ok(())
 }
 
@@ -242,7 +253,9 @@ pub(crate) fn take_joint_limits(
         (refusal_of result) rows.old rows.new out.old out.new }
 {
     for j in 0..model.joints.len() {
-        take_limits(model, state, factor, smooth, j, jacobian, reduced, rows, out)?;
+        take_limits(
+            model, state, factor, smooth, j, jacobian, reduced, rows, out,
+        )?;
     }
     Ok(())
 }

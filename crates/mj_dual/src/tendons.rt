@@ -38,13 +38,14 @@ fn take_low(
         (tendon_low_limits model.now (number_at applied.now.length) t)
         (refusal_of result) rows.old rows.new out.old out.new }
 {
-    if !has_tendon_low(model, applied, t) {
-        return Ok(());
+    if has_tendon_low(model, applied, t) {
+        let row = tendon_low(model, applied, t, jacobian);
+        take_row(
+            model, state, factor, smooth, &row, jacobian, reduced, rows, out,
+        )
+    } else {
+        Ok(())
     }
-    let row = tendon_low(model, applied, t, jacobian);
-    take_row(
-        model, state, factor, smooth, &row, jacobian, reduced, rows, out,
-    )
 }
 
 // Takes the row of a tendon's high limit, where it stands.
@@ -72,13 +73,14 @@ fn take_high(
         (tendon_high_limits model.now (number_at applied.now.length) t)
         (refusal_of result) rows.old rows.new out.old out.new }
 {
-    if !has_tendon_high(model, applied, t) {
-        return Ok(());
+    if has_tendon_high(model, applied, t) {
+        let row = tendon_high(model, applied, t, jacobian);
+        take_row(
+            model, state, factor, smooth, &row, jacobian, reduced, rows, out,
+        )
+    } else {
+        Ok(())
     }
-    let row = tendon_high(model, applied, t, jacobian);
-    take_row(
-        model, state, factor, smooth, &row, jacobian, reduced, rows, out,
-    )
 }
 
 // Takes the rows of a tendon's limits.
@@ -106,8 +108,12 @@ fn take_limits(
         (tendon_limits model.now (number_at applied.now.length) t)
         (refusal_of result) rows.old rows.new out.old out.new }
 {
-    take_low(model, state, factor, smooth, applied, t, jacobian, reduced, rows, out)?;
-    take_high(model, state, factor, smooth, applied, t, jacobian, reduced, rows, out)?;
+    take_low(
+        model, state, factor, smooth, applied, t, jacobian, reduced, rows, out,
+    )?;
+    take_high(
+        model, state, factor, smooth, applied, t, jacobian, reduced, rows, out,
+    )?;
     Ok(())
 }
 
@@ -135,7 +141,9 @@ pub(crate) fn take_tendon_limits(
         (refusal_of result) rows.old rows.new out.old out.new }
 {
     for t in 0..model.tendons.len() {
-        take_limits(model, state, factor, smooth, applied, t, jacobian, reduced, rows, out)?;
+        take_limits(
+            model, state, factor, smooth, applied, t, jacobian, reduced, rows, out,
+        )?;
     }
     Ok(())
 }
