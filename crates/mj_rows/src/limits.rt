@@ -12,6 +12,7 @@ ghost use Rattle.mj_rows.specs.Working.{IsReady, IsWritten};
 
 use crate::jacobian::{add_at, clear, negate};
 use crate::joints::{dof_of, position, write_joint};
+use crate::pushing::pushing;
 use fx_list::Array;
 use fx_num::{Fix, Number};
 use mj_types::{Applied, Model, Range, Row, Soft, Source, State, Term};
@@ -48,8 +49,8 @@ fn greatest(x: &Extent) -> Fix<32>
     }
 }
 
-// `a - b`.
-fn less(a: &Fix<32>, b: &Fix<32>) -> Fix<32>
+/// `a - b`.
+pub(crate) fn less(a: &Fix<32>, b: &Fix<32>) -> Fix<32>
     requires a { unsigned_abs a.now.mid ≤ 2 ^ 60 }
     requires b { unsigned_abs b.now.mid ≤ 2 ^ 60 }
     ensures value { result.mid ≡ a.now.mid -ℤ b.now.mid }
@@ -103,14 +104,7 @@ fn limit(source: Source, x: &Extent, distance: &Fix<32>) -> Row
         ≡ row_of false (spec.limit source x.now distance.now.mid slope) }
     ensures ready { IsReady result }
 {
-    Row {
-        source,
-        r: less(distance, &x.margin),
-        soft: x.soft,
-        idle: false,
-        low: Some(Fix::from_raw(0)),
-        high: None,
-    }
+    pushing(source, &less(distance, &x.margin), &x.soft)
 }
 
 // ---- joints
