@@ -53,7 +53,7 @@ fn minus(n: &Fix<32>, x: &Wide<32>) -> Wide<32>
 }
 
 // The slope of an edge.
-fn edge_slope(friction: &Fix<32>, slope: &Slope, edge: u32) -> Wide<32>
+pub(crate) fn edge_slope(friction: &Fix<32>, slope: &Slope, edge: u32) -> Wide<32>
     ensures { result.raw ≡ spec.edge_slope friction.now.mid slope.now.normal.mid
         slope.now.first.mid slope.now.second.mid edge }
 {

@@ -63,7 +63,7 @@ pub(crate) fn less(a: &Fix<32>, b: &Fix<32>) -> Fix<32>
 }
 
 // How far it is above the least.
-fn above_least(x: &Extent) -> Fix<32>
+pub(crate) fn above_least(x: &Extent) -> Fix<32>
     requires { IsExtent x.now }
     ensures value { result.mid ≡ spec.above_least x.now }
     ensures small { unsigned_abs result.mid ≤ 2 ^ 53 }
@@ -72,7 +72,7 @@ fn above_least(x: &Extent) -> Fix<32>
 }
 
 // How far it is below the greatest.
-fn below_greatest(x: &Extent) -> Fix<32>
+pub(crate) fn below_greatest(x: &Extent) -> Fix<32>
     requires { IsExtent x.now }
     ensures value { result.mid ≡ spec.below_greatest x.now }
     ensures small { unsigned_abs result.mid ≤ 2 ^ 53 }
@@ -81,7 +81,7 @@ fn below_greatest(x: &Extent) -> Fix<32>
 }
 
 // Whether the limit at the least stands.
-fn is_low(x: &Extent) -> bool
+pub(crate) fn is_low(x: &Extent) -> bool
     requires { IsExtent x.now }
     ensures { result ≡ spec.is_low x.now }
 {
@@ -89,7 +89,7 @@ fn is_low(x: &Extent) -> bool
 }
 
 // Whether the limit at the greatest stands.
-fn is_high(x: &Extent) -> bool
+pub(crate) fn is_high(x: &Extent) -> bool
     requires { IsExtent x.now }
     ensures { result ≡ spec.is_high x.now }
 {
@@ -97,7 +97,7 @@ fn is_high(x: &Extent) -> bool
 }
 
 // The row of a limit.
-fn limit(source: Source, x: &Extent, distance: &Fix<32>) -> Row
+pub(crate) fn limit(source: Source, x: &Extent, distance: &Fix<32>) -> Row
     requires extent { IsExtent x.now }
     requires distance { unsigned_abs distance.now.mid ≤ 2 ^ 53 }
     ensures row { (slope : ℕ → ℤ) → result
