@@ -17,7 +17,7 @@ some_position Ball = omega arith
 some_position Hinge = omega arith
 some_position Slide = omega arith
 
-some_velocity : (k : JointKind) → 1 ≤ velocity_count k
+pub some_velocity : (k : JointKind) → 1 ≤ velocity_count k
 some_velocity Free = omega arith
 some_velocity Ball = omega arith
 some_velocity Hinge = omega arith

@@ -28,6 +28,18 @@ pub record Constraint : Type 0 where
 abbrev pub no_lever : ℕ → Triple ℤ
 no_lever d = record { x = pos 0; y = pos 0; z = pos 0 }
 
+-- one that pushes, and never pulls
+abbrev pub pushing : Source → ℤ → Soft → (ℕ → Triple ℤ) → (ℕ → ℤ) → Constraint
+pushing from violation soft_ lever_ slope = record {
+  source = from;
+  r = violation;
+  soft = soft_;
+  low = Some (pos 0);
+  high = None;
+  lever = lever_;
+  jacobian = slope;
+}
+
 -- ---- its row, which is idle or not
 abbrev pub force : Option ℤ → Option (Number (Unit {0}) 20)
 force None = None

@@ -1,6 +1,6 @@
 -- The edges of a contact's friction pyramid: along its normal, tilted towards each tangent by the friction. MuJoCo documentation,
 -- Computation, constraints: pyramidal friction cones; the rounding is this project's own.
-use Rattle.std.specs.Prelude.{ℕ, ◌+◌, ◌-◌, ◌^◌, ◌==◌, Bool, cond, ℤ, pos, ◌+ℤ◌, ◌-ℤ◌, ◌*ℤ◌, List, [], ◌∷◌, None, Some}
+use Rattle.std.specs.Prelude.{ℕ, ◌+◌, ◌-◌, ◌^◌, ◌==◌, Bool, cond, ℤ, pos, ◌+ℤ◌, ◌-ℤ◌, ◌*ℤ◌, List, [], ◌∷◌}
 use Rattle.fx_whole.specs.Entries.{below}
 use Rattle.fx_whole.specs.Joined.{joined}
 use Rattle.fx_whole.specs.Sums.{when}
@@ -17,7 +17,7 @@ use Rattle.mj_types.specs.declared.rows.Source.TheVariants as source
 use Rattle.mj_types.specs.Parts.{body, dof, parent_of, body_of}
 use Rattle.mj_types.specs.Placed.{Placing}
 use Rattle.mj_contact.specs.Lists.{margin}
-use Rattle.mj_rows.specs.Constraint.{Constraint}
+use Rattle.mj_rows.specs.Constraint.{Constraint, pushing}
 use Rattle.mj_rows.specs.Mixing.{first_geom, second_geom, friction, is_smooth, mixed}
 
 -- ---- how dofs move its two geoms apart
@@ -62,15 +62,9 @@ edge_jacobian m x c edge =
     (slope_along m x c (mids c.normal) d) (slope_along m x c (mids c.t1) d) (slope_along m x c (mids c.t2) d) edge)
 
 unfoldable pub edge_of : Model → Placing → Contact → ℕ → ℕ → Constraint
-edge_of m x c k edge = record {
-  source = source.Contact (k + 1) edge;
-  r = c.dist.mid -ℤ margin (first_geom m c) (second_geom m c);
-  soft = mixed (first_geom m c).soft (second_geom m c).soft;
-  low = Some (pos 0);
-  high = None;
-  lever = lever_of m x c;
-  jacobian = edge_jacobian m x c edge;
-}
+edge_of m x c k edge =
+    pushing (source.Contact (k + 1) edge) (c.dist.mid -ℤ margin (first_geom m c) (second_geom m c))
+    (mixed (first_geom m c).soft (second_geom m c).soft) (lever_of m x c) (edge_jacobian m x c edge)
 
 -- one edge without friction, which is edge 0, and four with it, from edge 1 on
 abbrev pub edge_count : Model → Contact → ℕ

@@ -9,7 +9,7 @@ use Rattle.mj_types.specs.declared.rows.Source.{Source}
 use Rattle.mj_types.specs.declared.rows.Source.TheVariants as source
 use Rattle.mj_types.specs.Parts.{plain, joint, tendon, term}
 use Rattle.mj_rows.specs.declared.limits.Extent.{Extent}
-use Rattle.mj_rows.specs.Constraint.{Constraint, no_lever}
+use Rattle.mj_rows.specs.Constraint.{Constraint, no_lever, pushing}
 use Rattle.mj_rows.specs.Joints.{one, position, at_joint}
 
 -- ---- what is held within a range
@@ -36,17 +36,8 @@ is_low x = is_some x.range && int_lt (above_least x) x.margin.mid
 abbrev pub is_high : Extent → Bool
 is_high x = is_some x.range && int_lt (below_greatest x) x.margin.mid
 
--- the constraint: it pushes, and never pulls
 abbrev pub limit : Source → Extent → ℤ → (ℕ → ℤ) → Constraint
-limit from x distance slope = record {
-  source = from;
-  r = distance -ℤ x.margin.mid;
-  soft = x.soft;
-  low = Some (pos 0);
-  high = None;
-  lever = no_lever;
-  jacobian = slope;
-}
+limit from x distance slope = pushing from (distance -ℤ x.margin.mid) x.soft no_lever slope
 
 -- ---- the joint at a place
 abbrev pub joint_extent : Model → State → ℕ → Extent

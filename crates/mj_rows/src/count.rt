@@ -1,5 +1,5 @@
 // How many rows stand.
-ghost use Rattle.std.specs.Prelude.{◌≡◌, ◌+◌, ◌*◌, ◌<◌, ◌≤◌, Bool, cond, length, IfOk};
+ghost use Rattle.std.specs.Prelude.{◌≡◌, ℕ, ◌+◌, ◌*◌, ◌<◌, ◌≤◌, cond, length, IfOk};
 ghost use Rattle.fx_whole.specs.First.{refusal_of};
 ghost use Rattle.mj_types.specs.Applieds.{AreApplied};
 ghost use Rattle.mj_types.specs.Parts.{number_at};
@@ -8,6 +8,7 @@ ghost use Rattle.mj_types.specs.Rooms.{ContactsRoom};
 ghost use Rattle.mj_types.specs.States.{Fits};
 ghost use Rattle.mj_contact.specs.Sizes.{AreUsable};
 ghost use Rattle.mj_rows.specs.Constraints as spec;
+ghost use Rattle.mj_rows.specs.Limits.{joint_limits, tendon_limits};
 
 use crate::edges::edge_count;
 use crate::joints::has_friction;
@@ -16,9 +17,37 @@ use mj_types::{Applied, Contacts, Model, OutOfRange, Quantity, State};
 
 // 1 where a row stands.
 fn one_if(stands: bool) -> usize
-    ensures { result ≡ cond stands 1 0 }
+    ensures value { result ≡ cond {A = ℕ} stands 1 0 }
+    ensures few { result ≤ 1 }
 {
     if stands { 1 } else { 0 }
+}
+
+// How many joints there are.
+fn joint_count(model: &Model) -> usize
+    ensures value { result ≡ length model.now.joints }
+    ensures few { result ≤ 64 }
+{
+    model.joints.len()
+}
+
+fn limits_of_joint(model: &Model, state: &State, j: usize) -> usize
+    requires fits { Fits model.now state.now }
+    requires joint { j < length model.now.joints }
+    ensures value { result ≡ length (joint_limits model.now state.now j) }
+    ensures few { result ≤ 2 }
+{
+    one_if(has_low(model, state, j)) + one_if(has_high(model, state, j))
+}
+
+fn limits_of_tendon(model: &Model, applied: &Applied, t: usize) -> usize
+    requires applied { AreApplied model.now applied.now }
+    requires tendon { t < length model.now.tendons }
+    ensures value { result
+        ≡ length (tendon_limits model.now (number_at applied.now.length) t) }
+    ensures few { result ≤ 2 }
+{
+    one_if(has_tendon_low(model, applied, t)) + one_if(has_tendon_high(model, applied, t))
 }
 
 fn friction_count(model: &Model) -> usize
@@ -26,7 +55,7 @@ fn friction_count(model: &Model) -> usize
     ensures few { result ≤ 64 }
 {
     let mut count = 0;
-    for j in 0..model.joints.len() {
+    for j in 0..joint_count(model) {
         count += one_if(has_friction(model, j));
     }
     count
@@ -38,8 +67,8 @@ fn joint_limit_count(model: &Model, state: &State) -> usize
     ensures few { result ≤ 128 }
 {
     let mut count = 0;
-    for j in 0..model.joints.len() {
-        count += one_if(has_low(model, state, j)) + one_if(has_high(model, state, j));
+    for j in 0..joint_count(model) {
+        count += limits_of_joint(model, state, j);
     }
     count
 }
@@ -52,8 +81,7 @@ fn tendon_limit_count(model: &Model, applied: &Applied) -> usize
 {
     let mut count = 0;
     for t in 0..model.tendons.len() {
-        count += one_if(has_tendon_low(model, applied, t));
-        count += one_if(has_tendon_high(model, applied, t));
+        count += limits_of_tendon(model, applied, t);
     }
     count
 }

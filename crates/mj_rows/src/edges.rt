@@ -1,5 +1,5 @@
 // The rows of a contact's edges.
-ghost use Rattle.std.specs.Prelude.{◌≡◌, ℕ, ◌+◌, ◌^◌, ◌<◌, ◌≤◌, ◌-ℤ◌, unsigned_abs, length, IfOk, OnOk, false};
+ghost use Rattle.std.specs.Prelude.{◌≡◌, ℕ, ◌+◌, ◌^◌, ◌<◌, ◌≤◌, ◌+ℤ◌, ◌-ℤ◌, unsigned_abs, length, IfOk, OnOk, false};
 ghost use Rattle.fx_whole.specs.First.{refusal_of, first_to};
 ghost use Rattle.mj_types.specs.declared.range.Quantity.TheVariants as kind;
 ghost use Rattle.mj_types.specs.Lawful.{IsGeom};
@@ -14,7 +14,9 @@ ghost use Rattle.mj_rows.specs.Mixing as mixing;
 ghost use Rattle.mj_rows.specs.Slopes.{AreSlopes, slope_at};
 ghost use Rattle.mj_rows.specs.Working.{IsReady, IsWritten};
 
-use crate::mixing::{geom_of, is_smooth, larger, mixed};
+use crate::limits::less;
+use crate::mixing::{friction, geom_of, is_smooth, mixed};
+use crate::pushing::pushing;
 use crate::slopes::Slope;
 use fx_num::{Fix, Number, Wide, narrow_within};
 use fx_whole::{difference, nearest_shift, product, sum};
@@ -51,7 +53,7 @@ fn minus(n: &Fix<32>, x: &Wide<32>) -> Wide<32>
 }
 
 // The slope of an edge.
-fn edge_slope(friction: &Fix<32>, slope: &Slope, edge: u32) -> Wide<32>
+pub(crate) fn edge_slope(friction: &Fix<32>, slope: &Slope, edge: u32) -> Wide<32>
     ensures { result.raw ≡ spec.edge_slope friction.now.mid slope.now.normal.mid
         slope.now.first.mid slope.now.second.mid edge }
 {
@@ -85,6 +87,26 @@ fn judged(x: &Wide<32>, number: usize) -> Result<Fix<32>, OutOfRange>
     }
 }
 
+// The slope of an edge at a dof, where it is at most 2^16 in size.
+fn edge_at(
+    friction: &Fix<32>,
+    slopes: &[Slope],
+    d: usize,
+    edge: u32,
+    number: usize,
+) -> Result<Fix<32>, OutOfRange>
+    requires dof { d < length slopes.now }
+    ensures value { IfOk result (λ n. n.mid ≡ spec.edge_slope friction.now.mid
+        (slope_at slopes.now d).normal.mid (slope_at slopes.now d).first.mid
+        (slope_at slopes.now d).second.mid edge) }
+    ensures within { IfOk result (λ n. unsigned_abs n.mid ≤ 2 ^ 48) }
+    ensures first { refusal_of result ≡ limited kind.Jacobian number (2 ^ 48)
+        (spec.edge_slope friction.now.mid (slope_at slopes.now d).normal.mid
+        (slope_at slopes.now d).first.mid (slope_at slopes.now d).second.mid edge) }
+{
+    judged(&edge_slope(friction, &slopes[d], edge), number)
+}
+
 // Writes the Jacobian of an edge from the slopes of its contact.
 fn write_edge(
     model: &Model,
@@ -106,9 +128,23 @@ fn write_edge(
         (slope_at slopes.now d).first.mid (slope_at slopes.now d).second.mid edge)) }
 {
     for d in 0..model.nv {
-        jacobian[d] = judged(&edge_slope(friction, &slopes[d], edge), number)?;
+        jacobian[d] = edge_at(friction, slopes, d, edge, number)?;
     }
     Ok(())
+}
+
+// The larger margin of two geoms.
+fn margin(a: &Geom, b: &Geom) -> Fix<32>
+    requires a { IsGeom a.now }
+    requires b { IsGeom b.now }
+    ensures value { result.mid ≡ margin_of a.now b.now }
+    ensures small { unsigned_abs result.mid ≤ 2 ^ 42 }
+{
+    if a.margin.mid < b.margin.mid {
+        b.margin
+    } else {
+        a.margin
+    }
 }
 
 // How far the two geoms are inside of their margin.
@@ -119,10 +155,7 @@ fn depth(contact: &Contact, a: &Geom, b: &Geom) -> Fix<32>
     ensures value { result.mid ≡ contact.now.dist.mid -ℤ margin_of a.now b.now }
     ensures small { unsigned_abs result.mid ≤ 2 ^ 56 }
 {
-    Number {
-        mid: contact.dist.mid - larger(&a.margin, &b.margin).mid,
-        rad: (),
-    }
+    less(&contact.dist, &margin(a, b))
 }
 
 // The row of an edge.
@@ -136,20 +169,15 @@ fn edge_row(model: &Model, frames: &Frames, contact: &Contact, k: usize, edge: u
     let _room = frames.column.len();
     let a = geom_of(model, contact.a);
     let b = geom_of(model, contact.b);
-    Row {
-        source: Source::Contact(k + 1, edge),
-        r: depth(contact, a, b),
-        soft: mixed(&a.soft, &b.soft),
-        idle: false,
-        low: Some(Fix::from_raw(0)),
-        high: None,
-    }
+    let soft = mixed(&a.soft, &b.soft);
+    pushing(Source::Contact(k + 1, edge), &depth(contact, a, b), &soft)
 }
 
 /// How many edges a contact has: one without friction, and four with it.
 pub fn edge_count(model: &Model, contact: &Contact) -> usize
     requires { IsUsable (length model.now.geoms) contact.now }
-    ensures { result ≡ spec.edge_count model.now contact.now }
+    ensures value { result ≡ spec.edge_count model.now contact.now }
+    ensures few { result ≤ 4 }
 {
     if is_smooth(geom_of(model, contact.a), geom_of(model, contact.b)) {
         1
@@ -199,7 +227,7 @@ pub fn edge(
 {
     let a = geom_of(model, contact.a);
     let b = geom_of(model, contact.b);
-    let friction = larger(&a.friction, &b.friction);
+    let friction = friction(a, b);
     write_edge(model, &friction, slopes, edge, number, jacobian)?;
     Ok(edge_row(model, frames, contact, k, edge))
 }

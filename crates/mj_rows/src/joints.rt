@@ -86,7 +86,7 @@ fn past(q: &Fix<32>, c: &Fix<32>) -> Wide<32>
 }
 
 // `x - y`, where it is at most 2^21 in size; else the fault of an equality's violation.
-fn judged(x: &Wide<32>, y: &Wide<32>, number: usize) -> Result<Fix<32>, OutOfRange>
+pub(crate) fn judged(x: &Wide<32>, y: &Wide<32>, number: usize) -> Result<Fix<32>, OutOfRange>
     requires x { unsigned_abs x.now.raw ≤ 2 ^ 53 }
     requires y { unsigned_abs y.now.raw ≤ 2 ^ 63 }
     ensures value { IfOk result (λ r. r.mid ≡ x.now.raw -ℤ y.now.raw) }
@@ -215,7 +215,7 @@ fn is_positive(n: &Fix<32>) -> bool
 }
 
 // The greatest friction, at scale 20.
-fn most_friction(loss: &Fix<32>) -> Fix<20>
+pub(crate) fn most_friction(loss: &Fix<32>) -> Fix<20>
     requires some { pos 0 ≤ℤ loss.now.mid }
     requires small { loss.now.mid ≤ℤ pos (2 ^ 52) }
     ensures value { result.mid ≡ settled_mid loss.now.mid 12 }

@@ -68,7 +68,7 @@ fn carried(n: &Fix<32>, a: &Fix<32>, d: &Fix<32>, b: &Fix<32>, c: &Fix<32>) -> W
 
 // The velocity of a point that moves with `s`, from its place about the point that `s` is about.
 #[tactic(auto, unfolding(crate::specs::Edges::velocity_of))]
-fn velocity(s: &Sp6<Plain, 32>, arm: &V3<Plain, 32>) -> Exact
+pub(crate) fn velocity(s: &Sp6<Plain, 32>, arm: &V3<Plain, 32>) -> Exact
     requires column { Within6 (spatial s.now) (2 ^ 42) }
     requires arm { Within (mids arm.now) (2 ^ 57) }
     ensures { exact result ≡ spec.velocity_of (spatial s.now) (mids arm.now) }

@@ -10,6 +10,7 @@ pub mod laws;
 mod levers;
 mod limits;
 mod mixing;
+mod pushing;
 mod slopes;
 #[cfg(test)]
 mod tests;
@@ -21,4 +22,4 @@ pub use laws::{edges_add_up, unmoved_is_zero};
 pub use limits::{
     has_high, has_low, has_tendon_high, has_tendon_low, high, low, tendon_high, tendon_low,
 };
-pub use slopes::{Slope, no_slopes, slopes};
+pub use slopes::{Slope, contact_slopes, no_slopes};

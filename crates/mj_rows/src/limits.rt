@@ -12,6 +12,7 @@ ghost use Rattle.mj_rows.specs.Working.{IsReady, IsWritten};
 
 use crate::jacobian::{add_at, clear, negate};
 use crate::joints::{dof_of, position, write_joint};
+use crate::pushing::pushing;
 use fx_list::Array;
 use fx_num::{Fix, Number};
 use mj_types::{Applied, Model, Range, Row, Soft, Source, State, Term};
@@ -48,8 +49,8 @@ fn greatest(x: &Extent) -> Fix<32>
     }
 }
 
-// `a - b`.
-fn less(a: &Fix<32>, b: &Fix<32>) -> Fix<32>
+/// `a - b`.
+pub(crate) fn less(a: &Fix<32>, b: &Fix<32>) -> Fix<32>
     requires a { unsigned_abs a.now.mid ≤ 2 ^ 60 }
     requires b { unsigned_abs b.now.mid ≤ 2 ^ 60 }
     ensures value { result.mid ≡ a.now.mid -ℤ b.now.mid }
@@ -62,7 +63,7 @@ fn less(a: &Fix<32>, b: &Fix<32>) -> Fix<32>
 }
 
 // How far it is above the least.
-fn above_least(x: &Extent) -> Fix<32>
+pub(crate) fn above_least(x: &Extent) -> Fix<32>
     requires { IsExtent x.now }
     ensures value { result.mid ≡ spec.above_least x.now }
     ensures small { unsigned_abs result.mid ≤ 2 ^ 53 }
@@ -71,7 +72,7 @@ fn above_least(x: &Extent) -> Fix<32>
 }
 
 // How far it is below the greatest.
-fn below_greatest(x: &Extent) -> Fix<32>
+pub(crate) fn below_greatest(x: &Extent) -> Fix<32>
     requires { IsExtent x.now }
     ensures value { result.mid ≡ spec.below_greatest x.now }
     ensures small { unsigned_abs result.mid ≤ 2 ^ 53 }
@@ -80,7 +81,7 @@ fn below_greatest(x: &Extent) -> Fix<32>
 }
 
 // Whether the limit at the least stands.
-fn is_low(x: &Extent) -> bool
+pub(crate) fn is_low(x: &Extent) -> bool
     requires { IsExtent x.now }
     ensures { result ≡ spec.is_low x.now }
 {
@@ -88,7 +89,7 @@ fn is_low(x: &Extent) -> bool
 }
 
 // Whether the limit at the greatest stands.
-fn is_high(x: &Extent) -> bool
+pub(crate) fn is_high(x: &Extent) -> bool
     requires { IsExtent x.now }
     ensures { result ≡ spec.is_high x.now }
 {
@@ -96,21 +97,14 @@ fn is_high(x: &Extent) -> bool
 }
 
 // The row of a limit.
-fn limit(source: Source, x: &Extent, distance: &Fix<32>) -> Row
+pub(crate) fn limit(source: Source, x: &Extent, distance: &Fix<32>) -> Row
     requires extent { IsExtent x.now }
     requires distance { unsigned_abs distance.now.mid ≤ 2 ^ 53 }
     ensures row { (slope : ℕ → ℤ) → result
         ≡ row_of false (spec.limit source x.now distance.now.mid slope) }
     ensures ready { IsReady result }
 {
-    Row {
-        source,
-        r: less(distance, &x.margin),
-        soft: x.soft,
-        idle: false,
-        low: Some(Fix::from_raw(0)),
-        high: None,
-    }
+    pushing(source, &less(distance, &x.margin), &x.soft)
 }
 
 // ---- joints

@@ -3,7 +3,6 @@ ghost use Rattle.std.specs.Prelude.{◌≡◌, ◌-◌, ◌+◌, ◌/◌, ◌^�
 ghost use Rattle.std.specs.Int.{int_min};
 ghost use Rattle.mj_types.specs.Lawful.{IsGeom, IsSoft, has_positive_form};
 ghost use Rattle.mj_types.specs.Parts.{geom};
-ghost use Rattle.mj_contact.specs.Lists.{larger as larger_of};
 ghost use Rattle.mj_rows.specs.Mixing as spec;
 
 use fx_num::Fix;
@@ -21,11 +20,15 @@ pub(crate) fn geom_of(model: &Model, number: usize) -> &Geom
     model.geoms.entry(number - 1)
 }
 
-/// The larger of two numbers.
-pub(crate) fn larger(x: &Fix<32>, y: &Fix<32>) -> Fix<32>
-    ensures { result.mid ≡ larger_of x.now.mid y.now.mid }
+/// The friction of two geoms: the larger.
+pub(crate) fn friction(a: &Geom, b: &Geom) -> Fix<32>
+    ensures { result.mid ≡ spec.friction a.now b.now }
 {
-    if x.mid < y.mid { *y } else { *x }
+    if a.friction.mid < b.friction.mid {
+        b.friction
+    } else {
+        a.friction
+    }
 }
 
 /// Whether neither of two geoms has friction.
@@ -81,12 +84,11 @@ fn are_timed(s: &Soft, t: &Soft) -> bool
     is_timed(s) && is_timed(t)
 }
 
-/// The softness of a contact of two geoms.
-pub(crate) fn mixed(s: &Soft, t: &Soft) -> Soft
+// The mix of each of their numbers.
+fn blended(s: &Soft, t: &Soft) -> Soft
     requires first { IsSoft s.now }
     requires second { IsSoft t.now }
-    ensures value { result ≡ spec.mixed s.now t.now }
-    ensures soft { IsSoft result }
+    ensures { result ≡ spec.mixed s.now t.now }
 {
     let timed = are_timed(s, t);
     Soft {
@@ -98,4 +100,14 @@ pub(crate) fn mixed(s: &Soft, t: &Soft) -> Soft
         mid: mean(&s.mid, &t.mid),
         power: (s.power + t.power) / 2,
     }
+}
+
+/// The softness of a contact of two geoms.
+pub(crate) fn mixed(s: &Soft, t: &Soft) -> Soft
+    requires first { IsSoft s.now }
+    requires second { IsSoft t.now }
+    ensures value { result ≡ spec.mixed s.now t.now }
+    ensures soft { IsSoft result }
+{
+    blended(s, t)
 }

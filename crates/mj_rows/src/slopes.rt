@@ -46,7 +46,7 @@ fn negative(n: &Fix<32>) -> Fix<32>
 }
 
 // What the second geom moves by more than the first along a direction, where what moves does so at `e`.
-fn slope_along(first: bool, second: bool, n: &V3<Plain, 32>, e: &V3<Plain, 32>) -> Fix<32>
+pub(crate) fn slope_along(first: bool, second: bool, n: &V3<Plain, 32>, e: &V3<Plain, 32>) -> Fix<32>
     requires direction { Within (mids n.now) (2 ^ 34) }
     requires velocity { Within (mids e.now) (2 ^ 48) }
     ensures { result.mid ≡ spec.apart first second (along (mids n.now) (mids e.now)) }
@@ -106,7 +106,7 @@ fn slope_from(
 }
 
 // The slopes of a dof.
-fn slope(
+fn slope_of(
     model: &Model,
     frames: &Frames,
     contact: &Contact,
@@ -128,7 +128,7 @@ fn slope(
 /// the contact's point (MuJoCo documentation, Computation, constraints). `number` is that of the
 /// contact's first row in the list of rows. The refusal is that of the first such velocity that passes
 /// 2^16; those of dofs that move neither geom are judged too. Takes no memory.
-pub fn slopes(
+pub fn contact_slopes(
     model: &Model,
     frames: &Frames,
     contact: &Contact,
@@ -144,7 +144,7 @@ pub fn slopes(
         (spec.lever_of model.now (placing_of frames.now) contact.now) }
 {
     for d in 0..model.nv {
-        out[d] = slope(model, frames, contact, d, number)?;
+        out[d] = slope_of(model, frames, contact, d, number)?;
     }
     Ok(())
 }
