@@ -47,6 +47,10 @@ module _ (m : Model) (y : Dynamics) where
       → HasAdded m y part (Some e) rows rows d d
   added-refused rows d part e open_ first = record { open_ = open_; first = first; count = λ q. cc; taken = λ q. cc }
 
+  -- of parts that are the same
+  pub added-same : (a b : Rows) (d e : Dual) (xs ys : List Constraint) (r : Option OutOfRange) → xs ≡ ys → HasAdded m y xs r a b d e → HasAdded m y ys r a b d e
+  added-same a b d e xs ys r same one = subst (λ (x : List Constraint). HasAdded m y x r a b d e) same one
+
   pub added-then : (a b c : Rows) (d e f : Dual) (xs ys : List Constraint) (r : Option OutOfRange)
       → HasAdded m y xs None a b d e → HasAdded m y ys r b c e f → HasAdded m y (xs ++ ys) r a c d f
   added-then a b c d e f xs ys r one two =

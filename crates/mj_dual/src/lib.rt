@@ -2,6 +2,7 @@
 #![tactic(auto)]
 
 mod active;
+mod contacts;
 mod joints;
 mod numbers;
 mod reducing;

@@ -32,7 +32,8 @@ fn take_low(
     requires jacobian { length jacobian.old ≡ model.now.nv }
     requires reduced { length reduced.old ≡ model.now.nv }
     requires open_ { CanTake model.now rows.old out.old }
-    requires spare { length rows.old.list.list + length (tendon_low_limits model.now (number_at applied.now.length) t)
+    requires spare { length rows.old.list.list
+        + length (tendon_low_limits model.now (number_at applied.now.length) t)
         ≤ model.now.njmax }
     ensures { HasAdded model.now (dynamics model.now state.now factor.now smooth.now)
         (tendon_low_limits model.now (number_at applied.now.length) t)
@@ -67,7 +68,8 @@ fn take_high(
     requires jacobian { length jacobian.old ≡ model.now.nv }
     requires reduced { length reduced.old ≡ model.now.nv }
     requires open_ { CanTake model.now rows.old out.old }
-    requires spare { length rows.old.list.list + length (tendon_high_limits model.now (number_at applied.now.length) t)
+    requires spare { length rows.old.list.list
+        + length (tendon_high_limits model.now (number_at applied.now.length) t)
         ≤ model.now.njmax }
     ensures { HasAdded model.now (dynamics model.now state.now factor.now smooth.now)
         (tendon_high_limits model.now (number_at applied.now.length) t)
@@ -102,7 +104,8 @@ fn take_limits(
     requires jacobian { length jacobian.old ≡ model.now.nv }
     requires reduced { length reduced.old ≡ model.now.nv }
     requires open_ { CanTake model.now rows.old out.old }
-    requires spare { length rows.old.list.list + length (tendon_limits model.now (number_at applied.now.length) t)
+    requires spare { length rows.old.list.list
+        + length (tendon_limits model.now (number_at applied.now.length) t)
         ≤ model.now.njmax }
     ensures { HasAdded model.now (dynamics model.now state.now factor.now smooth.now)
         (tendon_limits model.now (number_at applied.now.length) t)
@@ -134,7 +137,8 @@ pub(crate) fn take_tendon_limits(
     requires jacobian { length jacobian.old ≡ model.now.nv }
     requires reduced { length reduced.old ≡ model.now.nv }
     requires open_ { CanTake model.now rows.old out.old }
-    requires spare { length rows.old.list.list + length (all_tendon_limits model.now (number_at applied.now.length))
+    requires spare { length rows.old.list.list
+        + length (all_tendon_limits model.now (number_at applied.now.length))
         ≤ model.now.njmax }
     ensures { HasAdded model.now (dynamics model.now state.now factor.now smooth.now)
         (all_tendon_limits model.now (number_at applied.now.length))
