@@ -2,6 +2,7 @@
 #![tactic(auto)]
 
 mod active;
+mod assembling;
 mod contacts;
 mod joints;
 mod numbers;
@@ -11,4 +12,5 @@ mod tendons;
 #[cfg(test)]
 mod tests;
 
+pub use assembling::assemble;
 pub use reducing::reduce;
