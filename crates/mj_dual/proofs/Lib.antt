@@ -19,6 +19,7 @@
 --   faults-append, -whole  the first fault of two parts, and of all rows
 --   added-none, -refused, -then, -stop      nothing is taken; two parts one after the other; a fault ends it early
 --   turn-start, -more, -stop, -spare        a loop that takes part after part
+pub mod AssemblyLaws
 pub mod ContactLaws
 pub mod EntryLaws
 pub mod PassingLaws

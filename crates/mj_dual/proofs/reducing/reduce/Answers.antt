@@ -18,7 +18,7 @@ returns-in_err-diag-clause-first c =
     let at = c.square_sum.ensures.value ∙ diagonal_is y j c.half.new.out (c.half.auto.out ∙ c.requires.out) c.in_ok-half.ensures.value in
     let r = err_from_is_err_and c.from_residual-in_err-diag.result c.from_residual-in_err-diag.ensures.1 in
     rw (r.1, r.2)
-    (pass_first _ _ _ c.in_ok-half.ensures.first
+    (pass_first (reduced_fault c.args.number y j) _ _ c.in_ok-half.ensures.first
     (stop_first _ _ _ (c.in_err-diag.ensures.first ∙ ap (limited kind.Regularizer c.args.number (2 ^ 72)) at)))
 
 pub returns-then-is_idle-clause-value : goal.returns-then-is_idle-clause-value
