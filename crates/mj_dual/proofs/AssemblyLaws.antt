@@ -1,5 +1,5 @@
 -- The beginning and the end of an assembly.
-use Rattle.std.proofs.Common.{◌≡◌, ℕ, ◌+◌, ◌*◌, ◌<◌, Bool, not, List, [], length, map, Option, Some, None, refl, sym, ap, ◌∙◌, arith}
+use Rattle.std.proofs.Common.{◌≡◌, ℕ, not, List, [], length, Option, None, refl, sym, ap, ◌∙◌, arith}
 use Rattle.std.proofs.lemmas.List.{get_or-map, length-map}
 use Rattle.fx_whole.specs.Counting.{count_to}
 use Rattle.fx_whole.proofs.CountLaws.{count_to-ext}
@@ -13,7 +13,7 @@ use Rattle.mj_types.specs.StepValues as values
 use Rattle.mj_rows.specs.Constraint.{Constraint}
 use Rattle.mj_dual.specs.Reductions.{Dynamics}
 use Rattle.mj_dual.specs.Entries.{dual_from}
-use Rattle.mj_dual.specs.Assembly.{no_constraint, constraint, listed_row, row_list, is_active, entry_at_place, dual_of, rows_fault}
+use Rattle.mj_dual.specs.Assembly.{no_constraint, listed_row, row_list, is_active, entry_at_place, dual_of, rows_fault}
 use Rattle.mj_dual.specs.Taking.{HasTaken, HasAdded, faults_from}
 use Rattle.mj_dual.proofs.EntryLaws.{entries-none, entries-whole}
 use Rattle.mj_dual.proofs.TakingLaws.{faults-whole}

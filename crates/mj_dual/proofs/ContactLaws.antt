@@ -1,5 +1,5 @@
 -- The edges of a contact.
-use Rattle.std.proofs.Common.{◌≡◌, ℕ, ◌+◌, ◌<◌, ◌≤◌, Bool, true, false, cond, [], ◌∷◌, length, Some, refl, sym, ap, ◌∙◌, arith}
+use Rattle.std.proofs.Common.{◌≡◌, ℕ, ◌+◌, ◌<◌, ◌≤◌, Bool, true, false, cond, [], ◌∷◌, length, Some, sym, ap, ◌∙◌, arith}
 use Rattle.mj_types.specs.declared.carriers.Contact.{Contact}
 use Rattle.mj_types.specs.declared.dual.Dual.{Dual}
 use Rattle.mj_types.specs.declared.model.Model.{Model}

@@ -114,7 +114,7 @@ entries-push nv n p e numbers row old new passes has put here r b low high place
         ]
 
 -- ---- in the end
-same_below : {A : Type 0} (none : A) (m n : ℕ) (f g : ℕ → A) → m ≡ n → ((k : ℕ) → k < n → f k ≡ g k) → below none m f ≡ below none n g
+pub same_below : {A : Type 0} (none : A) (m n : ℕ) (f g : ℕ → A) → m ≡ n → ((k : ℕ) → k < n → f k ≡ g k) → below none m f ≡ below none n g
 same_below none m n f g e h =
     ap (λ (i : ℕ). below none i f) e
     ∙ fun_ext (λ k. elim (cases_lt k n) [
@@ -122,7 +122,7 @@ same_below none m n f g e h =
       | inr l ↦ below-past none n f k l ∙ sym (below-past none n g k l)
     ])
 
-same_values : (m m' nv nv' : ℕ) (g g' : ℕ → ℕ → ℤ) (r r' b b' : ℕ → ℤ) (low low' high high' : ℕ → Option ℤ) (place place' : ℕ → ℕ)
+pub same_values : (m m' nv nv' : ℕ) (g g' : ℕ → ℕ → ℤ) (r r' b b' : ℕ → ℤ) (low low' high high' : ℕ → Option ℤ) (place place' : ℕ → ℕ)
     → m ≡ m' → nv ≡ nv' → g ≡ g' → r ≡ r' → b ≡ b' → low ≡ low' → high ≡ high' → place ≡ place'
     → let x : DualValues = record { problem = record { m = m; nv = nv; g = g; r = r; b = b; low = low; high = high }; place = place } in
     let y : DualValues = record { problem = record { m = m'; nv = nv'; g = g'; r = r'; b = b'; low = low'; high = high' }; place = place' } in

@@ -23,6 +23,7 @@ pub mod AssemblyLaws
 pub mod ContactLaws
 pub mod EntryLaws
 pub mod PassingLaws
+pub mod ReadLaws
 pub mod ReductionLaws
 pub mod RegularLaws
 pub mod RowLaws

@@ -2,7 +2,7 @@
 use Rattle.std.proofs.Common.{◌≡◌, ℕ, zero, suc, ◌+◌, ◌<◌, ◌==◌, ◌&&◌, Bool, true, false, cond, refl, sym, ap, ap₂, ◌∙◌, arith, add-one, inl, inr}
 use Rattle.std.proofs.lemmas.Bool.{cases_Bool, cases_eq, cond-true, cond-false, eq-eqb, ne_eqb}
 use Rattle.fx_whole.specs.Counting.{count_to}
-use Rattle.fx_whole.proofs.CountLaws.{count_to-yes, count_to-no, count_to-ext}
+use Rattle.fx_whole.proofs.CountLaws.{count_to-yes, count_to-no, count_to-ext, count_to-below}
 use Rattle.mj_dual.specs.Passing.{passing}
 
 -- one place more
@@ -49,3 +49,30 @@ passing-ext (suc n) p q h k =
     ap₂ (λ b (m : ℕ). cond b n m)
     (ap₂ (λ x (c : ℕ). x && c == k) (h n (omega arith)) (count_to-ext n p q (λ i l. h i (omega arith))))
     (passing-ext n p q (λ i l. h i (omega arith)) k)
+
+-- it passes
+pub passing-passes : (n : ℕ) (p : ℕ → Bool) (k : ℕ) → k < count_to n p → p (passing n p k) ≡ true
+passing-passes zero p k h = absurd (omega arith)
+passing-passes (suc n) p k h = ap (λ (i : ℕ). p (passing i p k)) (sym (add-one n)) ∙ more n p k h (passing-passes n p k)
+  where
+    more : (n : ℕ) (p : ℕ → Bool) (k : ℕ) → k < count_to (suc n) p → (k < count_to n p → p (passing n p k) ≡ true) → p (passing (n + 1) p k) ≡ true
+    more n p k h below =
+        let one = ap (λ (m : ℕ). count_to m p) (add-one n) in
+        elim (cases_Bool (p n)) [
+          | inl e ↦ elim (cases_eq k (count_to n p)) [
+            | inl q ↦ ap p (ap (passing (n + 1) p) q ∙ passing-last n p e) ∙ e
+            | inr q ↦ (let l : k < count_to n p = omega (arith, one, count_to-yes n p e) in ap p (passing-more n p k l) ∙ below l)
+          ]
+          | inr e ↦ (let l : k < count_to n p = omega (arith, one, count_to-no n p e) in ap p (passing-more n p k l) ∙ below l)
+        ]
+
+-- and each that passes is found after those before it
+pub passing-each : (n i : ℕ) (p : ℕ → Bool) → i < n → p i ≡ true → passing n p (count_to i p) ≡ i
+passing-each zero i p h e = absurd (omega arith)
+passing-each (suc n) i p h e = ap (λ (k : ℕ). passing k p (count_to i p)) (sym (add-one n)) ∙ more (passing-each n i p)
+  where
+    more : (i < n → p i ≡ true → passing n p (count_to i p) ≡ i) → passing (n + 1) p (count_to i p) ≡ i
+    more below = elim (cases_eq i n) [
+      | inl q ↦ ap (λ (k : ℕ). passing (n + 1) p (count_to k p)) q ∙ passing-last n p (ap p (sym q) ∙ e) ∙ sym q
+      | inr q ↦ (let l : i < n = omega arith in passing-more n p (count_to i p) (count_to-below i n p l e) ∙ below l e)
+    ]

@@ -1,10 +1,10 @@
 -- One constraint more: in the list of rows, in the table of Jacobians and in the dual.
-use Rattle.std.proofs.Common.{◌≡◌, ◌≢◌, ℕ, ◌+◌, ◌*◌, ◌<◌, ◌≤◌, Bool, true, false, not, cond, ℤ, pos, List, [], ◌∷◌, ◌++◌, length, map, Option, Some, None, is_none, is_some, refl, sym, ap, ap₂, ◌∙◌, subst, arith, length-append, inl, inr}
-use Rattle.std.proofs.lemmas.Bool.{cases_eq, cond-true, cond-false}
+use Rattle.std.proofs.Common.{◌≡◌, ℕ, ◌+◌, ◌*◌, ◌<◌, ◌≤◌, Bool, true, false, not, cond, ℤ, pos, List, [], ◌∷◌, ◌++◌, length, Option, Some, None, is_none, is_some, refl, sym, ap, ap₂, ◌∙◌, subst, arith, length-append, inl, inr}
+use Rattle.std.proofs.lemmas.Bool.{cases_eq}
 use Rattle.std.proofs.lemmas.List.{get_or_append_left, get_or-append-add, length-map, map-append}
 use Rattle.std.proofs.lemmas.Nat.{mul-add-lt}
 use Rattle.std.proofs.Math.Seq.{get_or-append_seam}
-use Rattle.fx_whole.specs.First.{or_first, first_to}
+use Rattle.fx_whole.specs.First.{or_first}
 use Rattle.fx_list.specs.Held.{Held}
 use Rattle.fx_num.specs.declared.number.Number.{Number}
 use Rattle.mj_types.specs.declared.dual.Dual.{Dual}
@@ -13,12 +13,12 @@ use Rattle.mj_types.specs.declared.model.Model.{Model}
 use Rattle.mj_types.specs.declared.range.OutOfRange.{OutOfRange}
 use Rattle.mj_types.specs.declared.rows.Row.{Row}
 use Rattle.mj_types.specs.declared.rows.Rows.{Rows}
-use Rattle.mj_types.specs.Duals.{bound, entry_at}
+use Rattle.mj_types.specs.Duals.{bound}
 use Rattle.mj_types.specs.Parts.{number_at, plain}
 use Rattle.mj_rows.specs.Constraint.{Constraint, force, row_of, row_fault}
 use Rattle.mj_dual.specs.Actives.{active_entry}
-use Rattle.mj_dual.specs.Reductions.{Dynamics, reduced, diagonal, is_idle, row_entry, reduction_fault}
-use Rattle.mj_dual.specs.Entries.{Entry, HasEntries, IsPushed}
+use Rattle.mj_dual.specs.Reductions.{Dynamics, reduced, diagonal, row_entry, reduction_fault}
+use Rattle.mj_dual.specs.Entries.{HasEntries, IsPushed}
 use Rattle.mj_dual.specs.Assembly.{no_constraint, constraint, is_left_out, listed_row, entry_of, constraint_fault, row_list, is_active, entry_at_place, HasJacobians}
 use Rattle.mj_types.specs.Problems.{HaveSameRoom}
 use Rattle.mj_dual.specs.Taking.{CanTake, HasTaken, HasAdded, IsHeld, faults_from}

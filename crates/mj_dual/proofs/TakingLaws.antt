@@ -3,7 +3,7 @@ use Rattle.std.proofs.Common.{◌≡◌, ℕ, ◌+◌, ◌-◌, ◌<◌, ◌≤�
 use Rattle.std.proofs.lemmas.List.{get_or_append_left, get_or-append-add}
 use Rattle.fx_whole.specs.First.{or_first, first_to}
 use Rattle.fx_whole.specs.Joined.{joined}
-use Rattle.fx_whole.proofs.FirstLaws.{first_split, first_ext, or_pass, or_stop, stop_first, pass_first}
+use Rattle.fx_whole.proofs.FirstLaws.{first_split, first_ext, stop_first, pass_first}
 use Rattle.fx_whole.proofs.JoinedLaws.{joined-none, joined-more, joined-split, joined-within}
 use Rattle.mj_types.specs.declared.dual.Dual.{Dual}
 use Rattle.mj_types.specs.declared.model.Model.{Model}

@@ -1,6 +1,6 @@
 -- The dual of a list of constraints: the list of their rows, with which of them are idle, and the problem of those that aren't. MuJoCo
 -- documentation, Computation chapter; scales, rounding and ranges are this project's own.
-use Rattle.std.specs.Prelude.{◌≡◌, ℕ, ◌+◌, ◌*◌, ◌<◌, Bool, false, not, ℤ, pos, List, length, map, slice_index_or, Option, None}
+use Rattle.std.specs.Prelude.{◌≡◌, ℕ, ◌+◌, ◌*◌, ◌<◌, Bool, not, pos, List, length, map, slice_index_or, Option, None}
 use Rattle.fx_whole.specs.First.{or_first, first_to}
 use Rattle.fx_num.specs.declared.number.Number.{Number}
 use Rattle.mj_types.specs.declared.model.Model.{Model}

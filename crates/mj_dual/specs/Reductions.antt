@@ -1,6 +1,6 @@
 -- A constraint's row in the dual: G = J L^-T D^-1/2, its diagonal entry, and what the dual holds of it, with the first number that is out of
 -- range. MuJoCo documentation, Computation, constraint model; scales, rounding and ranges are this project's own.
-use Rattle.std.specs.Prelude.{ℕ, ◌^◌, ℤ, pos, int_lt, Bool, cond, List, Option, Some, None}
+use Rattle.std.specs.Prelude.{◌≡◌, ℕ, ◌^◌, ◌<◌, ℤ, pos, int_lt, Bool, cond, List, Option, Some, None}
 use Rattle.fx_whole.specs.First.{or_first}
 use Rattle.fx_num.specs.declared.number.Number.{Number}
 use Rattle.mj_types.specs.declared.carriers.Factor.{Factor}
@@ -54,3 +54,11 @@ reduction_fault row y s r j =
     or_first (reduced_fault row y j)
     (or_first (limited kind.Regularizer row (2 ^ 72) (diagonal y j))
     (cond (is_idle (diagonal y j)) None (active_fault row y.motion (diagonal y j) s r j)))
+
+-- ---- which numbers of the dynamics are read: those of the dofs, and of L those below the diagonal
+pub record AreSame (y z : Dynamics) : Type 0 where
+  pub dofs : y.motion.dofs ≡ z.motion.dofs
+  pub lower : (k i : ℕ) → k < y.motion.dofs → i < k → y.lower k i ≡ z.lower k i
+  pub pivot : (k : ℕ) → k < y.motion.dofs → y.pivot k ≡ z.pivot k
+  pub velocity : (k : ℕ) → k < y.motion.dofs → y.motion.velocity k ≡ z.motion.velocity k
+  pub smooth : (k : ℕ) → k < y.motion.dofs → y.motion.smooth k ≡ z.motion.smooth k

@@ -9,7 +9,7 @@ ghost use Rattle.mj_types.specs.Rooms.{ContactsRoom};
 ghost use Rattle.mj_types.specs.RowRooms.{RowsRoom};
 ghost use Rattle.mj_types.specs.States.{Fits};
 ghost use Rattle.mj_types.specs.StepValues.{active_count, dual_values};
-ghost use Rattle.mj_rows.specs.Stub.{AreUsable};
+ghost use Rattle.mj_contact.specs.Sizes.{AreUsable};
 ghost use Rattle.mj_factor.specs.Stored.{IsFactor};
 ghost use Rattle.mj_rows.specs.Constraints as all;
 ghost use Rattle.mj_dual.specs.Assembly as spec;

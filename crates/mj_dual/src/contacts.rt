@@ -3,7 +3,7 @@ ghost use Rattle.std.specs.Prelude.{◌≡◌, length, ◌+◌, ◌<◌, ◌≤�
 ghost use Rattle.fx_whole.specs.First.{refusal_of};
 ghost use Rattle.mj_types.specs.Placed.{AreFrames, placing_of};
 ghost use Rattle.mj_types.specs.Rooms.{ContactsRoom};
-ghost use Rattle.mj_rows.specs.Stub.{AreUsable, IsUsable};
+ghost use Rattle.mj_contact.specs.Sizes.{AreUsable, IsUsable};
 ghost use Rattle.mj_rows.specs.Constraints.{all_edges};
 ghost use Rattle.mj_rows.specs.Edges as spec;
 ghost use Rattle.mj_rows.specs.Slopes.{AreSlopes};

@@ -5,6 +5,7 @@ mod active;
 mod assembling;
 mod contacts;
 mod joints;
+pub mod laws;
 mod numbers;
 mod reducing;
 mod taking;
@@ -13,4 +14,5 @@ mod tendons;
 mod tests;
 
 pub use assembling::assemble;
+pub use laws::{assembly_reads_dofs, passing_rows_are_found};
 pub use reducing::reduce;

@@ -1,4 +1,4 @@
-use Rattle.std.proofs.Common.{List, [], length, refl, ap, ◌∙◌}
+use Rattle.std.proofs.Common.{refl, ap, ◌∙◌}
 use Rattle.std.proofs.lemmas.Result.{err_from_is_err_and}
 use Rattle.fx_whole.proofs.FirstLaws.{pass_first}
 use Rattle.mj_types.specs.Placed.{placing_of}

@@ -1,10 +1,10 @@
-use Rattle.std.proofs.Common.{◌≡◌, ℕ, ◌+◌, ◌≤◌, ◌<◌, None, refl, List, length, subst, sym, ap, ◌∙◌, arith}
+use Rattle.std.proofs.Common.{◌≡◌, ℕ, ◌+◌, ◌≤◌, None, refl, length, subst, sym, ap, arith}
 use Rattle.std.proofs.lemmas.List.Elements.{All-get_or}
 use Rattle.std.proofs.lemmas.Result.{err_from_is_err_and}
 use Rattle.fx_whole.specs.Joined.{joined}
 use Rattle.mj_types.specs.declared.carriers.Contact.{Contact}
 use Rattle.mj_types.specs.Placed.{placing_of}
-use Rattle.mj_rows.specs.Stub.{IsUsable}
+use Rattle.mj_contact.specs.Sizes.{IsUsable}
 use Rattle.mj_rows.specs.Constraints.{contact, no_contact}
 use Rattle.mj_rows.specs.Edges.{edges}
 use Rattle.mj_dual.specs.Reductions.{dynamics}

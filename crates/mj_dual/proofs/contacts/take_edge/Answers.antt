@@ -1,4 +1,4 @@
-use Rattle.std.proofs.Common.{ℕ, ◌+◌, refl, sym, ap, ◌∙◌}
+use Rattle.std.proofs.Common.{ℕ, ◌+◌, sym, ap, ◌∙◌}
 use Rattle.std.proofs.lemmas.Result.{err_from_is_err_and}
 use Rattle.mj_types.specs.Placed.{placing_of}
 use Rattle.mj_rows.specs.Constraint.{row_fault}

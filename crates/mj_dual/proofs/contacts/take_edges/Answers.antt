@@ -1,6 +1,5 @@
-use Rattle.std.proofs.Common.{◌≡◌, ℕ, ◌+◌, ◌≤◌, ◌<◌, None, Some, refl, [], ◌∷◌, List, length, subst, ap, ap₂, ◌∙◌, arith}
+use Rattle.std.proofs.Common.{◌≡◌, ℕ, ◌+◌, ◌<◌, None, refl, [], ◌∷◌, length, subst, ap, ◌∙◌, arith}
 use Rattle.std.proofs.lemmas.Result.{err_from_is_err_and}
-use Rattle.fx_whole.specs.First.{refusal_of}
 use Rattle.fx_whole.specs.Joined.{joined}
 use Rattle.mj_types.specs.Placed.{placing_of}
 use Rattle.mj_rows.specs.Edges.{edge_of, first_edge, edge_count}

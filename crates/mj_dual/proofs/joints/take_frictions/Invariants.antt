@@ -1,4 +1,4 @@
-use Rattle.std.proofs.Common.{None, [], ◌∷◌, length}
+use Rattle.std.proofs.Common.{None}
 use Rattle.fx_whole.specs.Joined.{joined}
 use Rattle.mj_rows.specs.Joints.{frictions}
 use Rattle.mj_dual.specs.Reductions.{dynamics}

@@ -1,4 +1,4 @@
-use Rattle.std.proofs.Common.{ℕ, ◌+◌, ap, ◌∙◌}
+use Rattle.std.proofs.Common.{ℕ, ◌+◌, ap}
 use Rattle.std.proofs.lemmas.Result.{err_from_is_err_and}
 use Rattle.mj_types.specs.Parts.{number_at}
 use Rattle.mj_dual.specs.Reductions.{dynamics}

@@ -1,4 +1,4 @@
-use Rattle.std.proofs.Common.{None, [], ◌∷◌, length}
+use Rattle.std.proofs.Common.{None}
 use Rattle.fx_whole.specs.Joined.{joined}
 use Rattle.mj_types.specs.Parts.{number_at}
 use Rattle.mj_rows.specs.Limits.{tendon_limits}
