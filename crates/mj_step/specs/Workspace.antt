@@ -54,4 +54,4 @@ pub record HasLoad (m : Model) (s : State) (u : List Control) (x : List Control)
 pub record IsRowless (rows : Rows) (dual : Dual) : Type 0 where
   pub list : rows.list.list ≡ []
   pub jacobian : rows.jac.list ≡ []
-  pub dual : dual.m ≡ 0
+  pub empty : dual.m ≡ 0

@@ -57,7 +57,9 @@ fn record_of(tape: &Tape, k: usize) -> &[Fix<32>]
     requires { k < tape.now.rows }
     ensures { result.now ≡ take tape.now.width (drop (k * tape.now.width) tape.now.values) }
 {
-    &tape.values.as_slice()[k * tape.width..(k + 1) * tape.width]
+    let values = tape.values.as_slice();
+    let begin = k * tape.width;
+    &values[begin..begin + tape.width]
 }
 
 /// A run under way: its workspace, and the state that it has come to.

@@ -1,4 +1,4 @@
-use Rattle.std.proofs.Common.{sym, inl, inr, refl, length, ⊎_elim}
+use Rattle.std.proofs.Common.{sym, inl, inr, refl, ⊎_elim}
 use Rattle.std.proofs.lemmas.Result.{err_from_is_err_and}
 use Rattle.mj_tape.specs.Judging.{records_of}
 use Rattle.mj_tape.proofs.Verdict.{judged-large, judged-fault, answered, held-fill}

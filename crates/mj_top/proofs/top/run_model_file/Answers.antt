@@ -19,9 +19,9 @@ returns-in-Ok g c =
     record {
       outcome = λ tells.
           answers-within (λ (o : Outcome). with_accepted held (step_count words) (tape_of words) m ≡ Some o) (IsFileOutcome held (step_count words) (tape_of words) bytes)
-          c.run_accepted_model.result _ _ (λ o e. (Ok m, sym judged, e)) (c.run_accepted_model.ensures.outcome tells);
-      nothing = c.run_accepted_model.ensures.nothing;
-      cause = c.run_accepted_model.ensures.cause;
+          c.run_accepted_model-status.result _ _ (λ o e. (Ok m, sym judged, e)) (c.run_accepted_model-status.ensures.outcome tells);
+      nothing = c.run_accepted_model-status.ensures.nothing;
+      cause = c.run_accepted_model-status.ensures.cause;
       accepted = λ e. (m, judged);
     }
 
