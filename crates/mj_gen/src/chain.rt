@@ -67,9 +67,17 @@ fn send_inertial<S: Sink>(sink: &mut S, page: &mut Page, r: u64)
     ensures { Sent S.holds S.faults sink.old page.old (spec.inertial_text r)
         sink.new page.new }
 {
-    send(sink, page, b"inertial = { pos = [0, 0, \"-0.05\"], mass = \"");
+    send(
+        sink,
+        page,
+        b"inertial = { pos = [0, 0, \"-0.05\"], mass = \"",
+    );
     send_mass(sink, page, r);
-    send(sink, page, b"\", diaginertia = [\"0.001\", \"0.001\", \"0.001\"] }\n");
+    send(
+        sink,
+        page,
+        b"\", diaginertia = [\"0.001\", \"0.001\", \"0.001\"] }\n",
+    );
 }
 
 // The axis of a link's hinge.
@@ -164,8 +172,9 @@ fn send_chain<S: Sink>(sink: &mut S, page: &mut Page, seed: u32, links: u32)
     send_motors(sink, page, links);
 }
 
-/// The text of a model of a chain of so many links above a plane. Each link is a capsule on a hinge
-/// with a motor, a child of the link before it, and the seed draws its mass. One seed gives one text.
+/// The text of a model of a chain of so many links above a plane. Each link is a capsule on a hinge,
+/// which turns about y at links 1, 3, 5 and so on and about x at the others; it hangs from the link
+/// before it and has a motor. Its mass, from 0.05 to 0.115535, is drawn from the seed.
 ///
 /// # Errors
 ///

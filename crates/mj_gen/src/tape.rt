@@ -5,9 +5,9 @@ ghost use Rattle.mj_gen.specs.Tape as spec;
 
 use crate::growing::GrowingSink;
 use fx_num::Fix;
+use fx_text::send_decimal;
 use mj_io::{Failed, NoMemory, Page, Sink, finish, send};
 use mj_quat::sin_cos;
-use fx_text::send_decimal;
 use std::alloc::Global;
 
 // The product of a row and a column.
@@ -97,8 +97,9 @@ fn send_rows<S: Sink>(sink: &mut S, page: &mut Page, seed: u32, rows: u32, width
     }
 }
 
-/// The text of a tape of so many rows for so many motors. The control in row k and column j, both from
-/// 1, is the sine of (k j + s) / 64, where s is the seed modulo 1024. One seed gives one text.
+/// The text of a tape of so many rows for so many motors, comma-separated values without a header. The
+/// control in row k and column j, both from 1, is the sine of (k j + s) / 64 with six decimal places,
+/// where s is the seed modulo 1024.
 ///
 /// # Errors
 ///

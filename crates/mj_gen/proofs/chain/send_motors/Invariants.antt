@@ -1,4 +1,3 @@
-use Rattle.fx_whole.specs.Joined.{joined}
 use Rattle.mj_io.specs.Sent.{Sent}
 use Rattle.mj_gen.specs.Chain.{motors_text}
 use Rattle.mj_gen.proofs.chain.send_motors.Given as goal
