@@ -1,5 +1,5 @@
 // A tape of sines, as a text.
-ghost use Rattle.std.specs.Prelude.{pos, ◌≡◌, ◌+◌, ◌*◌, ◌≤◌, ◌^◌, IfOk, unsigned_abs};
+ghost use Rattle.std.specs.Prelude.{◌≡◌, ◌+◌, ◌*◌, ◌≤◌, ◌^◌, IfOk, pos, unsigned_abs};
 ghost use Rattle.mj_io.specs.Sent.{Sent};
 ghost use Rattle.mj_gen.specs.Tape as spec;
 
