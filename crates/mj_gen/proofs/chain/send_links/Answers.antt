@@ -2,7 +2,7 @@ use Rattle.std.proofs.Common.{◌≡◌, ◌+◌, ℕ, List, sym, ap, ◌∙◌,
 use Rattle.mj_gen.specs.Numbers.{high_bits, draw}
 use Rattle.mj_gen.specs.Chain.{link_text}
 use Rattle.mj_gen.proofs.Drawing.{number-first, number-more}
-use Rattle.mj_gen.proofs.Joining.{sent-as, sent-begun, sent-joined, sent-whole}
+use Rattle.mj_trace.proofs.Joining.{sent-as, sent-begun, sent-joined, sent-whole}
 use Rattle.mj_gen.proofs.chain.send_links.Goals as goal
 
 abbrev link : ℕ → ℕ → List ℕ

@@ -1,6 +1,6 @@
 use Rattle.std.proofs.Common.{◌+◌, ℕ, List, arith}
 use Rattle.mj_gen.specs.Chain.{motor_text}
-use Rattle.mj_gen.proofs.Joining.{sent-begun, sent-joined, sent-whole}
+use Rattle.mj_trace.proofs.Joining.{sent-begun, sent-joined, sent-whole}
 use Rattle.mj_gen.proofs.chain.send_motors.Goals as goal
 
 abbrev motor : ℕ → List ℕ

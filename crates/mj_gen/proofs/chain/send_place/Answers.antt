@@ -1,5 +1,5 @@
 use Rattle.std.proofs.Common.{refl}
-use Rattle.mj_gen.proofs.Joining.{sent-as}
+use Rattle.mj_trace.proofs.Joining.{sent-as}
 use Rattle.mj_gen.proofs.chain.send_place.Goals as goal
 
 pub returns-then-i-eq1 : goal.returns-then-i-eq1

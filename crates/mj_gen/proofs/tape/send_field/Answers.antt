@@ -3,7 +3,7 @@ use Rattle.mj_io.proofs.Sent.{sent-then}
 use Rattle.fx_text.specs.Places.{decimal_text}
 use Rattle.mj_quat.specs.Sine.{sine}
 use Rattle.mj_gen.specs.Tape.{field_text, angle}
-use Rattle.mj_gen.proofs.Joining.{sent-as}
+use Rattle.mj_trace.proofs.Joining.{sent-as}
 use Rattle.mj_gen.proofs.tape.send_field.Goals as goal
 
 pub returns : goal.returns

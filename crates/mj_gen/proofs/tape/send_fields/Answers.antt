@@ -1,6 +1,6 @@
 use Rattle.std.proofs.Common.{◌+◌, ℕ, List, arith}
 use Rattle.mj_gen.specs.Tape.{field_text}
-use Rattle.mj_gen.proofs.Joining.{sent-begun, sent-joined, sent-whole}
+use Rattle.mj_trace.proofs.Joining.{sent-begun, sent-joined, sent-whole}
 use Rattle.mj_gen.proofs.tape.send_fields.Goals as goal
 
 abbrev field : ℕ → ℕ → ℕ → List ℕ

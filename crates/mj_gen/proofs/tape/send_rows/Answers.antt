@@ -1,6 +1,6 @@
 use Rattle.std.proofs.Common.{◌+◌, ℕ, List, arith}
 use Rattle.mj_gen.specs.Tape.{row_text, tape_text}
-use Rattle.mj_gen.proofs.Joining.{sent-begun, sent-joined, sent-whole}
+use Rattle.mj_trace.proofs.Joining.{sent-begun, sent-joined, sent-whole}
 use Rattle.mj_gen.proofs.tape.send_rows.Goals as goal
 
 abbrev row : ℕ → ℕ → ℕ → List ℕ
