@@ -23,7 +23,7 @@ use Rattle.mj_bias.specs.Movement.{Movement}
 use Rattle.mj_bias.specs.Biases.{own_motion, own_drift, carrier_sum, carrier, column_rate}
 use Rattle.mj_bias.specs.Radii.{Rule, own_motion_width, own_drift_width, carrier_width, carrier_radius, column_rate_radius}
 use Rattle.mj_bias.specs.Faults.{dof_fault}
-use Rattle.mj_bias.specs.Measures.{Measured, measured, exact, no_measure, numbers_at, totals_at, sum_of, multiple, motion_rate, settled_by, judged, IsWithin}
+use Rattle.mj_bias.specs.Measures.{Measured, measured, exact, no_measure, numbers_at, totals_at, sum_of, multiple, motion_rate, settled_by, measure_fault, IsWithin}
 use Rattle.mj_bias.specs.Steps.{carrier_there, rate_there, dof_fault_there}
 use Rattle.mj_bias.specs.Carried.{carrier_at, rate_at, motion_to, drift_to, IsBegun}
 use Rattle.mj_bias.proofs.SeenLaws.{same_measured}
@@ -119,7 +119,7 @@ rate_there_is rule m j turn e =
 
 pub dof_fault_is : (rule : Rule) (m : Movement) (j : ℕ) (turn : Measured) → turn ≡ carrier_at rule m j → dof_fault_there rule (m.constant j) turn (exact (m.column j)) j ≡ dof_fault rule m j
 dof_fault_is rule m j turn e =
-    ap₂ (λ (t s : Measured). or_first (judged kind.DofMotion (j + 1) (2 ^ 48) t) (judged kind.DofMotion (j + 1) (2 ^ 56) s)) e (rate_there_is rule m j turn e)
+    ap₂ (λ (t s : Measured). or_first (measure_fault kind.DofMotion (j + 1) (2 ^ 48) t) (measure_fault kind.DofMotion (j + 1) (2 ^ 56) s)) e (rate_there_is rule m j turn e)
 
 -- ---- how large the sums are
 when_within : (t : Bool) (s : Spatial ℤ) (l : ℕ) → Within6 s l → Within6 (when_in vectors t s) l

@@ -16,7 +16,7 @@ use Rattle.mj_bias.specs.Movement.{Movement}
 use Rattle.mj_bias.specs.Biases.{body_velocity, velocity_sum, body_acceleration, acceleration_sum, body_momentum, own_wrench, load, load_sum, dof_bias}
 use Rattle.mj_bias.specs.Radii.{Rule, body_velocity_radius, velocity_width, body_acceleration_radius, acceleration_width, body_momentum_radius, own_wrench_width, load_radius, load_width, dof_bias_radius}
 use Rattle.mj_bias.specs.Faults.{is_within6, body_fault, force_fault}
-use Rattle.mj_bias.specs.Measures.{Measured, measured, exact, no_measure, judged, IsWithin}
+use Rattle.mj_bias.specs.Measures.{Measured, measured, exact, no_measure, measure_fault, IsWithin}
 use Rattle.mj_bias.specs.Steps.{velocity_there, acceleration_there, momentum_there, wrench_there, body_wrench_there, body_fault_there, sum_there, load_there, force_there, force_radius_there, force_fault_there, Holds, AreSmall}
 use Rattle.mj_bias.specs.Carried.{motion_to, drift_to, wrench_at}
 use Rattle.mj_bias.proofs.MeasureLaws.{none_within}
@@ -67,9 +67,9 @@ body_fault_is rule m b s t e f =
   where
     whole : Measured → Measured → Measured → Measured → Option OutOfRange
     whole v a p w =
-        or_first (judged kind.BodyMotion (b + 1) (2 ^ 48) v)
-        (or_first (judged kind.BodyMotion (b + 1) (2 ^ 56) a)
-        (or_first (judged kind.BodyMotion (b + 1) (2 ^ 62) p)
+        or_first (measure_fault kind.BodyMotion (b + 1) (2 ^ 48) v)
+        (or_first (measure_fault kind.BodyMotion (b + 1) (2 ^ 56) a)
+        (or_first (measure_fault kind.BodyMotion (b + 1) (2 ^ 62) p)
         (unless (is_within6 (2 ^ 118) w.value) kind.Wrench (b + 1))))
 
 -- the wrenches of all bodies, from those by places and that of the world
@@ -114,8 +114,8 @@ dof_radius_is rule m i column s e f = ap₂ (λ (x y : Measured). force_radius_t
 pub dof_force_fault_is : (rule : Rule) (m : Movement) (i : ℕ) (column s : Measured) → column ≡ exact (m.column i) → s ≡ sum_there m.parent (m.bodies + 1) (wrench_at rule m) (m.body i)
     → force_fault_there rule column s i ≡ force_fault rule m i
 dof_force_fault_is rule m i column s e f =
-    ap₂ (λ (x y : Measured). or_first (judged kind.Bias (i + 1) (2 ^ 62) y) (named kind.Bias (i + 1) (over (2 ^ 52) (force_there x y) (force_radius_there rule x y)))) e (load_is rule m i s f)
-    ∙ ap₂ (λ (n : ℤ) (r : ℕ). or_first (judged kind.Bias (i + 1) (2 ^ 62) (load_at rule m i)) (named kind.Bias (i + 1) (over (2 ^ 52) n r))) (force_at m i rule) (radius_at rule m i)
+    ap₂ (λ (x y : Measured). or_first (measure_fault kind.Bias (i + 1) (2 ^ 62) y) (named kind.Bias (i + 1) (over (2 ^ 52) (force_there x y) (force_radius_there rule x y)))) e (load_is rule m i s f)
+    ∙ ap₂ (λ (n : ℤ) (r : ℕ). or_first (measure_fault kind.Bias (i + 1) (2 ^ 62) (load_at rule m i)) (named kind.Bias (i + 1) (over (2 ^ 52) n r))) (force_at m i rule) (radius_at rule m i)
 
 -- ---- the list of forces
 pub holds_more : {R : Type 0} (width : R → ℕ) (n : ℕ) (xs ys : List (Number R 32)) (value : ℕ → ℤ) (radius : ℕ → ℕ) (x : Number R 32)

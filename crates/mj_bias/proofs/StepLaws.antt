@@ -17,7 +17,7 @@ use Rattle.mj_types.specs.declared.parts.Dof.{Dof}
 use Rattle.mj_types.specs.declared.range.Quantity.{Quantity}
 use Rattle.mj_types.specs.Parts.{dof, no_dof}
 use Rattle.mj_types.specs.Ranges.{named}
-use Rattle.mj_bias.specs.Measures.{Measured, exact, numbers_at, totals_at, settled_by, judged, IsWithin}
+use Rattle.mj_bias.specs.Measures.{Measured, exact, numbers_at, totals_at, settled_by, measure_fault, IsWithin}
 use Rattle.mj_bias.specs.Radii.{Rule}
 use Rattle.mj_bias.specs.Steps.{carrier_there}
 use Rattle.mj_bias.proofs.SizeLaws.{within6-le, below6-le}
@@ -34,7 +34,7 @@ over3-none limit v r h k =
     or_pass (over limit v.x r.x) _ (over-none limit v.x r.x h.x k.x)
     ∙ or_pass (over limit v.y r.y) _ (over-none limit v.y r.y h.y k.y) ∙ over-none limit v.z r.z h.z k.z
 
-pub within_passes : (what : Quantity) (index limit : ℕ) (s : Measured) → IsWithin s limit radius_limit → judged what index limit s ≡ None
+pub within_passes : (what : Quantity) (index limit : ℕ) (s : Measured) → IsWithin s limit radius_limit → measure_fault what index limit s ≡ None
 within_passes what index limit s h =
     ap (named what index)
     (or_pass (over3 limit s.value.ang s.width.ang) _ (over3-none limit s.value.ang s.width.ang h.value_.ang h.width_.ang)

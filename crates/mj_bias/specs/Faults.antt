@@ -1,5 +1,5 @@
 -- The first number out of range on the way to the bias forces: those of the dofs, then those of the bodies, then the forces. Of each
--- rounded number the value is judged before its radius. Ranges of this project's own.
+-- rounded number the value is measure_fault before its radius. Ranges of this project's own.
 use Rattle.std.specs.Prelude.{ℕ, ◌+◌, ◌^◌, ℤ, Bool, ◌&&◌, Option}
 use Rattle.fx_whole.specs.First.{or_first, first_to}
 use Rattle.fx_num.specs.Settled.{over}

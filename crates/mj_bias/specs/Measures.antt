@@ -75,5 +75,5 @@ pub record IsNarrow (s : Measured) (width : ℕ) : Type 0 where
   pub width_ : Below6 s.width width
 
 -- its fault: of six numbers the first that passes a limit, each value before its radius
-abbrev pub judged : Quantity → ℕ → ℕ → Measured → Option OutOfRange
-judged what index limit s = named what index (over6 limit s.value s.width)
+abbrev pub measure_fault : Quantity → ℕ → ℕ → Measured → Option OutOfRange
+measure_fault what index limit s = named what index (over6 limit s.value s.width)

@@ -15,7 +15,7 @@ use Rattle.mj_types.specs.declared.range.OutOfRange.{OutOfRange}
 use Rattle.mj_types.specs.declared.range.Quantity.TheVariants as kind
 use Rattle.mj_types.specs.Parts.{dof}
 use Rattle.mj_types.specs.Ranges.{unless, named}
-use Rattle.mj_bias.specs.Measures.{Measured, measured, exact, no_measure, numbers_at, totals_at, sum_of, multiple, motion_rate, force_rate, momentum_of, settled_by, judged}
+use Rattle.mj_bias.specs.Measures.{Measured, measured, exact, no_measure, numbers_at, totals_at, sum_of, multiple, motion_rate, force_rate, momentum_of, settled_by, measure_fault}
 use Rattle.mj_bias.specs.Biases.{minus_one}
 use Rattle.mj_bias.specs.Radii.{Rule}
 use Rattle.mj_bias.specs.Faults.{is_within6}
@@ -31,7 +31,7 @@ rate_there rule constant turn column = cond constant no_measure (settled_by rule
 
 abbrev pub dof_fault_there : Rule → Bool → Measured → Measured → ℕ → Option OutOfRange
 dof_fault_there rule constant turn column j =
-    or_first (judged kind.DofMotion (j + 1) (2 ^ 48) turn) (judged kind.DofMotion (j + 1) (2 ^ 56) (rate_there rule constant turn column))
+    or_first (measure_fault kind.DofMotion (j + 1) (2 ^ 48) turn) (measure_fault kind.DofMotion (j + 1) (2 ^ 56) (rate_there rule constant turn column))
 
 -- ---- of a body, from the sums of its motions and of its drifts
 abbrev pub fall_of : Triple ℤ → Spatial ℤ
@@ -55,9 +55,9 @@ body_wrench_there rule gravity inertia motion drift =
 
 abbrev pub body_fault_there : Rule → Triple ℤ → Inertia → Measured → Measured → ℕ → Option OutOfRange
 body_fault_there rule gravity inertia motion drift k =
-    or_first (judged kind.BodyMotion k (2 ^ 48) (velocity_there rule motion))
-    (or_first (judged kind.BodyMotion k (2 ^ 56) (acceleration_there rule gravity drift))
-    (or_first (judged kind.BodyMotion k (2 ^ 62) (momentum_there rule inertia (velocity_there rule motion)))
+    or_first (measure_fault kind.BodyMotion k (2 ^ 48) (velocity_there rule motion))
+    (or_first (measure_fault kind.BodyMotion k (2 ^ 56) (acceleration_there rule gravity drift))
+    (or_first (measure_fault kind.BodyMotion k (2 ^ 62) (momentum_there rule inertia (velocity_there rule motion)))
     (unless (is_within6 (2 ^ 118) (body_wrench_there rule gravity inertia motion drift).value) kind.Wrench k)))
 
 -- ---- up the tree: the sum over all that is at or below b of what stood there
@@ -76,7 +76,7 @@ force_radius_there rule column load = rule (pair_width column.value column.width
 
 abbrev pub force_fault_there : Rule → Measured → Measured → ℕ → Option OutOfRange
 force_fault_there rule column wrench i =
-    or_first (judged kind.Bias (i + 1) (2 ^ 62) (load_there rule wrench))
+    or_first (measure_fault kind.Bias (i + 1) (2 ^ 62) (load_there rule wrench))
     (named kind.Bias (i + 1) (over (2 ^ 52) (force_there column (load_there rule wrench)) (force_radius_there rule column (load_there rule wrench))))
 
 -- a list of numbers, each with these functions of its place

@@ -64,7 +64,7 @@ fn acceleration<K: Carry>(
         (view.mids gravity.now) (measure.totals K.wide_width drift.now)) }
     ensures within { IfOk result (λ r.
         measure.IsWithin (measure.numbers K.width r) (2 ^ 56) radius_limit) }
-    ensures first { refusal_of result ≡ measure.judged Quantity.BodyMotion k (2 ^ 56)
+    ensures first { refusal_of result ≡ measure.measure_fault Quantity.BodyMotion k (2 ^ 56)
         (spec.acceleration_there K.settled (view.mids gravity.now)
         (measure.totals K.wide_width drift.now)) }
 {
@@ -87,7 +87,7 @@ fn momentum<K: Carry>(
         (view.inertia inertia.now) (measure.numbers K.width v.now)) }
     ensures within { IfOk result (λ r.
         measure.IsWithin (measure.numbers K.width r) (2 ^ 62) radius_limit) }
-    ensures first { refusal_of result ≡ measure.judged Quantity.BodyMotion k (2 ^ 62)
+    ensures first { refusal_of result ≡ measure.measure_fault Quantity.BodyMotion k (2 ^ 62)
         (spec.momentum_there K.settled (view.inertia inertia.now)
         (measure.numbers K.width v.now)) }
 {

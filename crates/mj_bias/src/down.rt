@@ -54,7 +54,7 @@ fn carrier<K: Carry>(
         ≡ carrier_there K.settled K.width K.wide_width model.now out.now b j) }
     ensures within { IfOk result (λ r.
         measure.IsWithin (measure.numbers K.width r) (2 ^ 48) radius_limit) }
-    ensures first { refusal_of result ≡ measure.judged Quantity.DofMotion (j + 1) (2 ^ 48)
+    ensures first { refusal_of result ≡ measure.measure_fault Quantity.DofMotion (j + 1) (2 ^ 48)
         (carrier_there K.settled K.width K.wide_width model.now out.now b j) }
 {
     let base = model.dofs.entry(j).base;
@@ -81,7 +81,7 @@ pub(crate) fn carried_rate<K: Carry>(
         (measure.numbers K.width column.now))) }
     ensures within { IfOk result (λ r.
         measure.IsWithin (measure.numbers K.width r) (2 ^ 56) radius_limit) }
-    ensures first { refusal_of result ≡ measure.judged Quantity.DofMotion (j + 1) (2 ^ 56)
+    ensures first { refusal_of result ≡ measure.measure_fault Quantity.DofMotion (j + 1) (2 ^ 56)
         (measure.settled_by K.settled 32 (measure.motion_rate (measure.numbers K.width turn.now)
         (measure.numbers K.width column.now))) }
 {
@@ -108,7 +108,7 @@ fn column_rate<K: Carry>(
         (measure.numbers K.width turn.now) (measure.numbers K.width column.now)) }
     ensures within { IfOk result (λ r.
         measure.IsWithin (measure.numbers K.width r) (2 ^ 56) radius_limit) }
-    ensures first { refusal_of result ≡ measure.judged Quantity.DofMotion (j + 1) (2 ^ 56)
+    ensures first { refusal_of result ≡ measure.measure_fault Quantity.DofMotion (j + 1) (2 ^ 56)
         (rate_there K.settled (movement.is_translation model.now j)
         (measure.numbers K.width turn.now) (measure.numbers K.width column.now)) }
 {

@@ -193,8 +193,10 @@ fn ends_of(
     requires f_room { dual.now.m ≤ length forces.now.f }
     requires solved { IsSolved dual.now forces.now }
     requires slope { slope.now.raw ≡ gradient (duals.problem dual.now) (duals.forces forces.now) i }
-    requires depth { depth.now.raw ≡ shortfall (duals.problem dual.now) (duals.forces forces.now) i }
-    requires total { total.now.raw ≡ total_shortfall (duals.problem dual.now) (duals.forces forces.now) }
+    requires depth { depth.now.raw
+        ≡ shortfall (duals.problem dual.now) (duals.forces forces.now) i }
+    requires total { total.now.raw
+        ≡ total_shortfall (duals.problem dual.now) (duals.forces forces.now) }
     requires limit { total.now.raw ≤ℤ pos (2 ^ 124) }
     ensures first { refusal_of result ≡ certificate.box_out dual.now forces.now i }
     ensures low { IfOk result (λ e. e.low.mid
@@ -227,11 +229,13 @@ pub fn fill_box(
         → wide_at slope.now k ≡ gradient (duals.problem dual.now) (duals.forces forces.now) k }
     requires depths { (k : ℕ) → k < dual.now.m
         → wide_at depth.now k ≡ shortfall (duals.problem dual.now) (duals.forces forces.now) k }
-    requires total { total.now.raw ≡ total_shortfall (duals.problem dual.now) (duals.forces forces.now) }
+    requires total { total.now.raw
+        ≡ total_shortfall (duals.problem dual.now) (duals.forces forces.now) }
     requires limit { total.now.raw ≤ℤ pos (2 ^ 124) }
     ensures lo_len { length lo.new ≡ length lo.old }
     ensures hi_len { length hi.new ≡ length hi.old }
-    ensures first { refusal_of result ≡ first_to dual.now.m (certificate.box_out dual.now forces.now) }
+    ensures first { refusal_of result
+        ≡ first_to dual.now.m (certificate.box_out dual.now forces.now) }
     ensures low { IfOk result (λ _. (k : ℕ) → k < dual.now.m
         → number_at lo.new k ≡ spec.lo (duals.problem dual.now) (duals.forces forces.now) k) }
     ensures high { IfOk result (λ _. (k : ℕ) → k < dual.now.m

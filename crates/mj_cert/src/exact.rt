@@ -30,7 +30,8 @@ pub fn plus_product<const A: u32, const B: u32, const P: u32>(
     a: &Fix<A>,
     b: &Fix<B>,
 ) -> Wide<P>
-    requires { unsigned_abs total.now.raw + unsigned_abs a.now.mid * unsigned_abs b.now.mid < 2 ^ 127 }
+    requires { unsigned_abs total.now.raw + unsigned_abs a.now.mid * unsigned_abs b.now.mid
+        < 2 ^ 127 }
     ensures { result.raw ≡ total.now.raw +ℤ a.now.mid *ℤ b.now.mid }
 {
     Wide {
@@ -50,7 +51,8 @@ pub fn times(r: &Wide<48>, f: &Fix<20>) -> Wide<68>
 
 /// `r f^2`.
 pub fn weight(r: &Wide<48>, f: &Fix<20>) -> Wide<88>
-    requires { unsigned_abs r.now.raw * (unsigned_abs f.now.mid * unsigned_abs f.now.mid) < 2 ^ 127 }
+    requires { unsigned_abs r.now.raw * (unsigned_abs f.now.mid * unsigned_abs f.now.mid)
+        < 2 ^ 127 }
     ensures { result.raw ≡ r.now.raw *ℤ (f.now.mid *ℤ f.now.mid) }
 {
     Wide {

@@ -145,7 +145,8 @@ fn fill_row(
     requires slope_room { dual.now.m ≤ length slope.old }
     requires depth_room { dual.now.m ≤ length depth.old }
     requires solved { IsSolved dual.now forces.now }
-    requires total { total.now.raw ≡ shortfall_to (duals.problem dual.now) (duals.forces forces.now) i }
+    requires total { total.now.raw
+        ≡ shortfall_to (duals.problem dual.now) (duals.forces forces.now) i }
     requires limit { total.now.raw ≤ℤ pos (2 ^ 124) }
     ensures slope_len { length slope.new ≡ length slope.old }
     ensures depth_len { length depth.new ≡ length depth.old }
@@ -196,7 +197,8 @@ pub fn fill_shortfalls(
     ensures slope { IfOk result (λ _. (k : ℕ) → k < dual.now.m
         → wide_at slope.new k ≡ gradient (duals.problem dual.now) (duals.forces forces.now) k) }
     ensures depth { IfOk result (λ _. (k : ℕ) → k < dual.now.m
-        → wide_at depth.new k ≡ spec.shortfall (duals.problem dual.now) (duals.forces forces.now) k) }
+        → wide_at depth.new k
+        ≡ spec.shortfall (duals.problem dual.now) (duals.forces forces.now) k) }
 {
     let mut total = Wide { raw: 0 };
     for i in 0..dual.m {

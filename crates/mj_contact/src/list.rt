@@ -2,7 +2,7 @@
 ghost use Rattle.std.specs.Prelude.{◌≡◌, [], ◌+◌, ◌-◌, ◌<◌, ◌≤◌, length, IfOk};
 ghost use Rattle.fx_whole.specs.First.{refusal_of};
 ghost use Rattle.mj_types.specs.Parts.{geom};
-ghost use Rattle.mj_types.specs.Placed.{AreFrames};
+ghost use Rattle.mj_types.specs.Placed.{AreFrames, placing_of};
 ghost use Rattle.mj_types.specs.Rooms.{ContactsRoom};
 ghost use Rattle.mj_contact.specs.Filter as filter;
 ghost use Rattle.mj_contact.specs.Growing.{HasAdded};
@@ -29,7 +29,7 @@ fn add_tested(
     requires room { out.old.most ≡ model.now.njmax }
     requires within { length out.old.list ≤ out.old.most }
     requires reach { AreUsable (length model.now.geoms) out.old.list }
-    ensures added { HasAdded out.old (spec.found_turned model.now frames.now a b)
+    ensures added { HasAdded out.old (spec.found_turned model.now (placing_of frames.now) a b)
         (refusal_of result) out.new }
     ensures reach { AreUsable (length model.now.geoms) out.new.list }
 {
@@ -58,7 +58,7 @@ fn add_pair(
     requires room { out.old.most ≡ model.now.njmax }
     requires within { length out.old.list ≤ out.old.most }
     requires reach { AreUsable (length model.now.geoms) out.old.list }
-    ensures added { HasAdded out.old (spec.found model.now frames.now a b)
+    ensures added { HasAdded out.old (spec.found model.now (placing_of frames.now) a b)
         (refusal_of result) out.new }
     ensures reach { AreUsable (length model.now.geoms) out.new.list }
 {
@@ -82,7 +82,7 @@ fn add_with_later(
     requires room { out.old.most ≡ model.now.njmax }
     requires within { length out.old.list ≤ out.old.most }
     requires reach { AreUsable (length model.now.geoms) out.old.list }
-    ensures added { HasAdded out.old (spec.found_with_later model.now frames.now a)
+    ensures added { HasAdded out.old (spec.found_with_later model.now (placing_of frames.now) a)
         (refusal_of result) out.new }
     ensures reach { AreUsable (length model.now.geoms) out.new.list }
 {
@@ -101,7 +101,7 @@ fn add_all(model: &Model, frames: &Frames, out: &mut Listing<Contact>) -> Result
     requires room { out.old.most ≡ model.now.njmax }
     requires within { length out.old.list ≤ out.old.most }
     requires reach { AreUsable (length model.now.geoms) out.old.list }
-    ensures added { HasAdded out.old (spec.contact_list model.now frames.now)
+    ensures added { HasAdded out.old (spec.contact_list model.now (placing_of frames.now))
         (refusal_of result) out.new }
     ensures reach { AreUsable (length model.now.geoms) out.new.list }
 {
@@ -124,8 +124,9 @@ pub fn contacts(model: &Model, frames: &Frames, out: &mut Contacts) -> Result<()
     requires units { AreUnits model.now frames.now }
     requires room { ContactsRoom model.now out.old }
     ensures room { ContactsRoom model.now out.new }
-    ensures first { refusal_of result ≡ spec.contacts_fault model.now frames.now }
-    ensures list { IfOk result (λ _. out.new.list.list ≡ spec.contact_list model.now frames.now) }
+    ensures first { refusal_of result ≡ spec.contacts_fault model.now (placing_of frames.now) }
+    ensures list { IfOk result (λ _. out.new.list.list
+        ≡ spec.contact_list model.now (placing_of frames.now)) }
     ensures reach { AreUsable (length model.now.geoms) out.new.list.list }
 {
     out.list.clear();

@@ -3,7 +3,7 @@ ghost use Rattle.std.specs.Prelude.{◌≡◌, ◌+◌, ◌^◌, ◌<◌, ◌≤
 ghost use Rattle.fx_whole.specs.First.{refusal_of};
 ghost use Rattle.mj_types.specs.Lawful.{IsGeom, IsUpTo};
 ghost use Rattle.mj_types.specs.Parts.{geom};
-ghost use Rattle.mj_types.specs.Placed.{AreFrames};
+ghost use Rattle.mj_types.specs.Placed.{AreFrames, placing_of};
 ghost use Rattle.mj_touch.specs.Meetings.{meeting_of, meetings_of, met, IsNear, AreNear};
 ghost use Rattle.mj_touch.specs.Solids.{IsShape};
 ghost use Rattle.mj_contact.specs.Growing.{HasAdded};
@@ -30,7 +30,7 @@ fn shape_at(model: &Model, frames: &Frames, g: usize) -> Shape
     requires geom { g < length model.now.geoms }
     requires frames { AreFrames model.now frames.now }
     requires units { AreUnits model.now frames.now }
-    ensures value { result ≡ spec.shape_at model.now frames.now g }
+    ensures value { result ≡ spec.shape_at model.now (placing_of frames.now) g }
     ensures shape { IsShape result }
 {
     let geom = geom_at(model, g);
@@ -161,7 +161,7 @@ pub(crate) fn add_in_order(
     requires room { out.old.most ≡ model.now.njmax }
     requires within { length out.old.list ≤ out.old.most }
     requires reach { AreUsable (length model.now.geoms) out.old.list }
-    ensures added { HasAdded out.old (spec.found_in_order model.now frames.now a b)
+    ensures added { HasAdded out.old (spec.found_in_order model.now (placing_of frames.now) a b)
         (refusal_of result) out.new }
     ensures reach { AreUsable (length model.now.geoms) out.new.list }
 {

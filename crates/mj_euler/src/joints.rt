@@ -75,7 +75,8 @@ fn move_place(
     ensures len { length q.new ≡ length q.old }
     ensures value { IfOk result (λ _. number_at q.new p
         ≡ spec.after model.now.h.mid (number_at state.now.q p) (number_at v.now d)) }
-    ensures within { IfOk result (λ _. unsigned_abs (number_at q.new p) ≤ unsigned_abs limit.now.mid) }
+    ensures within { IfOk result (λ _. unsigned_abs (number_at q.new p)
+        ≤ unsigned_abs limit.now.mid) }
     ensures others { (k : ℕ) → k ≢ p → number_at q.new k ≡ number_at q.old k }
     ensures first { refusal_of result ≡ limited Quantity.Position (p + 1)
         (unsigned_abs limit.now.mid)

@@ -57,8 +57,8 @@ has_float (array items) = any_item is_float items
 has_float value = is_float value
 
 -- a form, behind the look for floats
-abbrev pub judged : {A : Type 0} → Form A → Form A
-judged form value = if has_float value then Err code.FloatValue else form value
+abbrev pub exactly : {A : Type 0} → Form A → Form A
+exactly form value = if has_float value then Err code.FloatValue else form value
 
 abbrev pub text : Form (List ℕ)
 text (string s) = Ok s

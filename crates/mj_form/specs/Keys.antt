@@ -7,7 +7,7 @@ use Rattle.toml.specs.Data.{Data, string, Items, no_items, item, Members, no_mem
 use Rattle.mj_types.specs.declared.status.ModelCode.{ModelCode}
 use Rattle.mj_types.specs.declared.status.ModelCode.TheVariants as code
 use Rattle.mj_form.specs.Reading.{Read, ◌>>=◌, ◌>>◌, refused, at_key, under, place}
-use Rattle.mj_form.specs.Forms.{Form, judged, members, items_of_tables, is_float, is_table}
+use Rattle.mj_form.specs.Forms.{Form, exactly, members, items_of_tables, is_float, is_table}
 
 -- the key is one of these
 abbrev pub is_one_of : List ℕ → List (List ℕ) → Bool
@@ -65,11 +65,11 @@ if_required form (Some value) = form value
 
 -- what a key holds, if the table has it
 unfoldable pub optional : {A : Type 0} → Form A → List ℕ → Members → Read (Option A)
-optional form key t = at_key key (if_present (judged form) (get_member key t))
+optional form key t = at_key key (if_present (exactly form) (get_member key t))
 
 -- what a key that must be there holds
 unfoldable pub required : {A : Type 0} → Form A → List ℕ → Members → Read A
-required form key t = at_key key (if_required (judged form) (get_member key t))
+required form key t = at_key key (if_required (exactly form) (get_member key t))
 
 -- what a key holds, or else its default
 unfoldable pub otherwise : {A : Type 0} → A → Form A → List ℕ → Members → Read A
@@ -90,7 +90,7 @@ filled defaults form key t = do
 -- the walk of a key's value, which is a table
 abbrev pub walk_value : {A : Type 0} → (Members → Read A) → List ℕ → Data → Read A
 walk_value walk key value = do
-  inner ← at_key key (judged members value)
+  inner ← at_key key (exactly members value)
   under (key ++ codes ".") (walk inner)
 
 abbrev pub walk_present : {A : Type 0} → (Members → Read A) → List ℕ → Option Data → Read (Option A)

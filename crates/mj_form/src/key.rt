@@ -51,9 +51,9 @@ fn is_one_of(key: &str, keys: &[&str]) -> bool
 }
 
 /// Reads a value in a form, behind the look for floats.
-fn judged<F: Form>(alloc: Global, value: &Value) -> Result<F::Out, Refusal<ModelCode>>
+fn read_exact<F: Form>(alloc: Global, value: &Value) -> Result<F::Out, Refusal<ModelCode>>
     requires { F.can_read }
-    ensures { Reads result (forms.judged F.form (view value.now)) }
+    ensures { Reads result (forms.exactly F.form (view value.now)) }
 {
     if has_float(value) {
         Err(Refusal::Found(ModelCode::FloatValue))
@@ -67,23 +67,23 @@ fn if_present<F: Form>(
     found: Option<&Value>,
 ) -> Result<Option<F::Out>, Refusal<ModelCode>>
     requires { F.can_read }
-    ensures { Reads result (spec.if_present (forms.judged F.form)
+    ensures { Reads result (spec.if_present (forms.exactly F.form)
         (option_map (λ v. view v.now) found.entry)) }
 {
     match found {
         None => Ok(None),
-        Some(value) => Ok(Some(judged::<F>(alloc, value)?)),
+        Some(value) => Ok(Some(read_exact::<F>(alloc, value)?)),
     }
 }
 
 fn if_required<F: Form>(alloc: Global, found: Option<&Value>) -> Result<F::Out, Refusal<ModelCode>>
     requires { F.can_read }
-    ensures { Reads result (spec.if_required (forms.judged F.form)
+    ensures { Reads result (spec.if_required (forms.exactly F.form)
         (option_map (λ v. view v.now) found.entry)) }
 {
     match found {
         None => Err(Refusal::Found(ModelCode::MissingKey)),
-        Some(value) => judged::<F>(alloc, value),
+        Some(value) => read_exact::<F>(alloc, value),
     }
 }
 

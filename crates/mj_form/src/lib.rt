@@ -10,6 +10,6 @@ pub mod walker;
 
 pub use form::{AllNumbers, Form, NumberAt, Numbers, TextForm, Whole};
 pub use key::{has_key, holds_text, value_at};
-pub use refusal::{Refusal, refuse};
+pub use refusal::{Refusal, refuse, under_item, under_key};
 pub use table::walk_table;
 pub use walker::{Walk, Walker};

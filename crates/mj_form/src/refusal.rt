@@ -50,8 +50,8 @@ pub(crate) fn at_key<A>(
     key: &str,
     read: Result<A, Refusal<ModelCode>>,
 ) -> Result<A, Refusal<ModelFault>>
-    ensures { (judged : Result A ModelCode) → Reads read judged
-        → Reads result (spec.at_key key.now judged) }
+    ensures { (found : Result A ModelCode) → Reads read found
+        → Reads result (spec.at_key key.now found) }
 {
     match read {
         Ok(x) => Ok(x),
@@ -91,7 +91,7 @@ fn move_under(place: Vec<u8>, fault: ModelFault) -> Result<ModelFault, AllocErro
 }
 
 /// What is read of the table at a key: a fault's path begins with the key and a dot.
-pub(crate) fn under_key<A>(
+pub fn under_key<A>(
     alloc: Global,
     key: &str,
     read: Result<A, Refusal<ModelFault>>,
@@ -112,7 +112,7 @@ pub(crate) fn under_key<A>(
 }
 
 /// What is read of an item of an array of tables: a fault's path begins with its place and a dot.
-pub(crate) fn under_item<A>(
+pub fn under_item<A>(
     alloc: Global,
     key: &str,
     n: usize,

@@ -1,8 +1,8 @@
 // Keys judged in a walk, which keeps the first refusal.
-ghost use Rattle.std.specs.Prelude.{◌≡◌, ◌++◌, ◌^◌, pos, Result, IfOk, codes};
+ghost use Rattle.std.specs.Prelude.{◌≡◌, ◌^◌, pos, Result};
 ghost use Rattle.mj_types.specs.declared.status.ModelCode.{ModelCode};
 ghost use Rattle.mj_form.specs.Reading as reading;
-ghost use Rattle.mj_form.specs.Reading.{Read, Reads};
+ghost use Rattle.mj_form.specs.Reading.{Reads};
 ghost use Rattle.mj_form.specs.Steps.{Step};
 ghost use Rattle.mj_judge.specs.Judged as judged;
 ghost use Rattle.mj_judge.specs.Numbers as numbers;
@@ -17,10 +17,9 @@ use crate::vectors::{axis, diagonal, rotation, vector};
 use fx_list::{Array, Text};
 use fx_num::{Fix, Number, Plain};
 use fx_vec::{Q4, V3, Vector3};
-use itoa::Buffer;
 use mj_form::{Refusal, Walker, refuse};
 use mj_types::{ModelCode, ModelFault, Range, Soft};
-use std::alloc::{AllocError, Global};
+use std::alloc::Global;
 
 /// What is judged at a key: a fault gets the key as its path.
 fn at_key<A>(
@@ -211,84 +210,4 @@ pub fn judge_text(w: &mut Walker, key: &str, text: &Text, known: &[u8])
         (reading.at_key key.now (choices.only_text known.now text.now)) }
 {
     judge(w, key, choices::only_text(text, known), ())
-}
-
-/// The place of an item of an array, from 1, and a dot: `body[2].`.
-fn item_place(alloc: Global, key: &str, n: usize) -> Result<Vec<u8>, AllocError>
-    ensures { IfOk result (λ v. v.items ≡ reading.place key.now n ++ codes ".") }
-{
-    let mut buffer = Buffer::new();
-    let mut bytes = Vec::from_slice(alloc, key.as_bytes())?;
-    bytes.extend_from_slice(b"[")?;
-    bytes.extend_from_slice(buffer.format(n).as_bytes())?;
-    bytes.extend_from_slice(b"]")?;
-    bytes.extend_from_slice(b".")?;
-    Ok(bytes)
-}
-
-/// A key and a dot.
-fn key_place(alloc: Global, key: &str) -> Result<Vec<u8>, AllocError>
-    ensures { IfOk result (λ v. v.items ≡ key.now ++ codes ".") }
-{
-    let mut bytes = Vec::from_slice(alloc, key.as_bytes())?;
-    bytes.extend_from_slice(b".")?;
-    Ok(bytes)
-}
-
-/// The fault with a place put before its path.
-fn move_under(place: Vec<u8>, fault: ModelFault) -> Result<ModelFault, AllocError>
-    ensures { IfOk result (λ moved. moved ≡ record {
-      code = fault.code;
-      path = place.items ++ fault.path;
-    }) }
-{
-    let mut path = place;
-    path.extend_from_slice(fault.path.as_slice())?;
-    Ok(ModelFault {
-        code: fault.code,
-        path: Text::from_vec(path),
-    })
-}
-
-/// What is judged inside the table at a key: a fault's path begins with the key and a dot.
-pub fn under_key<A>(
-    alloc: Global,
-    key: &str,
-    read: Result<A, Refusal<ModelFault>>,
-) -> Result<A, Refusal<ModelFault>>
-    ensures { (r : Read A) → Reads read r
-        → Reads result (reading.under (key.now ++ codes ".") r) }
-{
-    match read {
-        Ok(x) => Ok(x),
-        Err(refusal) => match refusal {
-            Refusal::Memory => Err(Refusal::Memory),
-            Refusal::Found(fault) => {
-                let place = key_place(alloc, key)?;
-                Err(Refusal::Found(move_under(place, fault)?))
-            }
-        },
-    }
-}
-
-/// What is judged inside an item of an array of tables: a fault's path begins with its place and a dot.
-pub fn under_item<A>(
-    alloc: Global,
-    key: &str,
-    n: usize,
-    read: Result<A, Refusal<ModelFault>>,
-) -> Result<A, Refusal<ModelFault>>
-    ensures { (r : Read A) → Reads read r
-        → Reads result (reading.under (reading.place key.now n ++ codes ".") r) }
-{
-    match read {
-        Ok(x) => Ok(x),
-        Err(refusal) => match refusal {
-            Refusal::Memory => Err(Refusal::Memory),
-            Refusal::Found(fault) => {
-                let place = item_place(alloc, key, n)?;
-                Err(Refusal::Found(move_under(place, fault)?))
-            }
-        },
-    }
 }

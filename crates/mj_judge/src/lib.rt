@@ -13,8 +13,7 @@ pub use choices::{
 };
 pub use keys::{
     judge, judge_axis, judge_diagonal, judge_friction, judge_number, judge_range, judge_rotation,
-    judge_size, judge_soft, judge_text, judge_vector, judge_whether, judge_whole, under_item,
-    under_key, unturned,
+    judge_size, judge_soft, judge_text, judge_vector, judge_whether, judge_whole, unturned,
 };
 pub use names::{is_named, name, same_text};
 pub use numbers::{between, entry, small, unless, whole};

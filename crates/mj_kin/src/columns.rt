@@ -287,7 +287,8 @@ fn finish_column(
     requires room { length columns.old ≡ model.now.nv }
     requires columns { working.AreColumns model.now state.now columns.old d }
     ensures room { length columns.new ≡ model.now.nv }
-    ensures columns { IfOk result (λ _. working.AreColumns model.now state.now columns.new (d + 1)) }
+    ensures columns { IfOk result (λ _. working.AreColumns model.now state.now
+        columns.new (d + 1)) }
     ensures first { refusal_of result ≡ spec.column_fault d (spec.column model.now state.now d) }
 {
     let arm = arm_of(model, state, d, pos, anchors);

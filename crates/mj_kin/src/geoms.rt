@@ -38,7 +38,8 @@ fn geom_frame(
     requires geom { g < length model.now.geoms }
     requires positions { length pos.now ≡ length model.now.bodies }
     requires orientations { length quat.now ≡ length model.now.bodies }
-    requires posed { working.ArePosed model.now _state.now pos.now quat.now (length model.now.bodies) }
+    requires posed { working.ArePosed model.now _state.now pos.now quat.now
+        (length model.now.bodies) }
     ensures pose { IfOk result (λ f. working.pose_of f ≡ spec.geom_pose model.now _state.now g) }
     ensures unit { IfOk result (λ f. IsUnit (quaternion f.quat)) }
     ensures near { IfOk result (λ f. Within (mids f.pos) (2 ^ 46)) }
@@ -76,7 +77,8 @@ fn place_geom(
     requires geom { g < length model.now.geoms }
     requires positions { length pos.now ≡ length model.now.bodies }
     requires orientations { length quat.now ≡ length model.now.bodies }
-    requires posed { working.ArePosed model.now state.now pos.now quat.now (length model.now.bodies) }
+    requires posed { working.ArePosed model.now state.now pos.now quat.now
+        (length model.now.bodies) }
     requires places { length gpos.old ≡ length model.now.geoms }
     requires turns { length gquat.old ≡ length model.now.geoms }
     requires set { working.AreSet model.now state.now gpos.old gquat.old g }
@@ -101,7 +103,8 @@ pub(crate) fn place_geoms(
 ) -> Result<(), OutOfRange>
     requires positions { length pos.now ≡ length model.now.bodies }
     requires orientations { length quat.now ≡ length model.now.bodies }
-    requires posed { working.ArePosed model.now state.now pos.now quat.now (length model.now.bodies) }
+    requires posed { working.ArePosed model.now state.now pos.now quat.now
+        (length model.now.bodies) }
     requires places { length gpos.old ≡ length model.now.geoms }
     requires turns { length gquat.old ≡ length model.now.geoms }
     ensures places { length gpos.new ≡ length model.now.geoms }

@@ -35,7 +35,8 @@ pub(crate) fn is_near(v: &V3<Plain, 32>, limit: u64) -> bool
 /// The frame at a position with an orientation.
 pub(crate) fn framed(pos: &V3<Plain, 32>, quat: &Q4) -> Frame
     requires { WithinQuaternion (quaternion quat.now) (2 ^ 32) }
-    ensures { pose_of result ≡ record { position = mids pos.now; orientation = quaternion quat.now } }
+    ensures { pose_of result
+        ≡ record { position = mids pos.now; orientation = quaternion quat.now } }
 {
     Frame {
         pos: *pos,

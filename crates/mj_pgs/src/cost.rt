@@ -28,7 +28,8 @@ struct Sums {
 // The sum of the weights with a row more; the greatest number where that doesn't fit.
 fn with_weight(sums: &Sums, r: Wide<48>, f: Fix<20>) -> u128
     ensures { result ≡ min (sums.now.weight
-        + min (unsigned_abs r.raw * (unsigned_abs f.mid * unsigned_abs f.mid)) (2 ^ 128 - 1)) (2 ^ 128 - 1) }
+        + min (unsigned_abs r.raw * (unsigned_abs f.mid * unsigned_abs f.mid))
+        (2 ^ 128 - 1)) (2 ^ 128 - 1) }
 {
     let square = size(product(f.mid, f.mid));
     sums.weight

@@ -248,7 +248,8 @@ fn next(
     requires force { f.mid ≡ forces out.now i }
     requires slope { slope.raw ≡ law.gradient (problem dual.now) (forces out.now) i }
     requires size { unsigned_abs slope.raw ≤ 2 ^ 123 }
-    ensures first { refusal_of result ≡ limited Quantity.Force (problems.place dual.now i) force_limit
+    ensures first { refusal_of result
+        ≡ limited Quantity.Force (problems.place dual.now i) force_limit
         (rule.update (problem dual.now) (forces out.now) i) }
     ensures value { IfOk result (λ x. x.mid ≡ rule.update (problem dual.now) (forces out.now) i) }
     ensures small { IfOk result (λ x. unsigned_abs x.mid ≤ 2 ^ 50) }

@@ -67,7 +67,8 @@ pub fn solve(
     ensures places { HaveSamePlaces out.old out.new }
     ensures answer { result
         ≡ spec.answer (problem dual.now) (problems.place dual.now) tolerance.mid iterations }
-    ensures stop { IfOk result (λ stop. stop ≡ stop_of (problem dual.now) tolerance.mid iterations) }
+    ensures stop { IfOk result (λ stop. stop
+        ≡ stop_of (problem dual.now) tolerance.mid iterations) }
     ensures forces { IfOk result (λ stop.
         forces out.new ≡ iterate (problem dual.now) (sweeps_of stop)) }
     ensures solved { IfOk result (λ _. IsSolved dual.now out.new) }

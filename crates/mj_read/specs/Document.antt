@@ -64,8 +64,8 @@ walked None = refused code.NotToml []
 walked (Some t) = document_model t
 
 -- what bytes are read as: too many are refused, then what is no document, then the document's faults
-abbrev pub judged : List ℕ → Read RawModel
-judged bytes = if nat_lt 1048576 (length bytes) then refused code.TooLarge [] else walked (document bytes)
+abbrev pub raw_model : List ℕ → Read RawModel
+raw_model bytes = if nat_lt 1048576 (length bytes) then refused code.TooLarge [] else walked (document bytes)
 
 -- want of memory, at no key
 abbrev pub no_memory : ModelFault

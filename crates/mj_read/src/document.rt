@@ -114,8 +114,8 @@ fn walked(alloc: Global, bytes: &[u8]) -> Result<RawModel, Refusal<ModelFault>>
 }
 
 /// Reads bytes, unless there are too many.
-fn judged(alloc: Global, bytes: &[u8]) -> Result<RawModel, Refusal<ModelFault>>
-    ensures { Reads result (spec.judged bytes.now) }
+fn read_model(alloc: Global, bytes: &[u8]) -> Result<RawModel, Refusal<ModelFault>>
+    ensures { Reads result (spec.raw_model bytes.now) }
 {
     if bytes.len() > MOST_BYTES {
         return refuse(alloc, ModelCode::TooLarge, b"");
@@ -127,9 +127,9 @@ fn judged(alloc: Global, bytes: &[u8]) -> Result<RawModel, Refusal<ModelFault>>
 /// it is no TOML document, and else at the document's first fault: tables are walked key by key, and a
 /// table's least unknown key is refused before all others. `Memory` may stand for any answer.
 pub fn raw_model(alloc: Global, bytes: &[u8]) -> Result<RawModel, ModelFault>
-    ensures { OrMemory spec.no_memory result (spec.judged bytes.now) }
+    ensures { OrMemory spec.no_memory result (spec.raw_model bytes.now) }
 {
-    match judged(alloc, bytes) {
+    match read_model(alloc, bytes) {
         Ok(model) => Ok(model),
         Err(refusal) => match refusal {
             Refusal::Found(fault) => Err(fault),

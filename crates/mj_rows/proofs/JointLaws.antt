@@ -1,5 +1,5 @@
 -- Where the positions and the dofs of joints are.
-use Rattle.std.proofs.Common.{◌≡◌, ℕ, suc, ◌+◌, ◌-◌, ◌^◌, ◌<◌, ◌≤◌, length, unsigned_abs, refl, sym, ap, ◌∙◌, subst, arith, le_trans}
+use Rattle.std.proofs.Common.{◌≡◌, ℕ, suc, ◌+◌, ◌^◌, ◌<◌, ◌≤◌, length, unsigned_abs, subst, arith, le_trans}
 use Rattle.fx_whole.proofs.SumLaws.{sum_ℕ_to-le}
 use Rattle.mj_types.specs.declared.model.Model.{Model}
 use Rattle.mj_types.specs.declared.state.State.{State}

@@ -1,8 +1,8 @@
 -- The softness of two geoms, mixed, is a softness.
-use Rattle.std.proofs.Common.{◌≡◌, ℕ, ◌+◌, ◌/◌, ◌^◌, ◌<◌, ◌≤◌, Bool, true, false, ◌&&◌, ◌||◌, cond, ℤ, pos, ◌+ℤ◌, ◌*ℤ◌, neg_ℤ, ◌≤ℤ◌, unsigned_abs, refl, sym, ap, ◌∙◌, subst, arith, inl, inr}
+use Rattle.std.proofs.Common.{◌≡◌, ℕ, ◌+◌, ◌/◌, ◌^◌, ◌≤◌, Bool, true, false, ◌&&◌, ◌||◌, ℤ, pos, ◌+ℤ◌, ◌*ℤ◌, ◌≤ℤ◌, unsigned_abs, refl, ap, subst, arith, inl, inr}
 use Rattle.std.specs.Prelude.{int_le, nat_le}
 use Rattle.std.specs.Int.{int_min}
-use Rattle.std.proofs.lemmas.Bool.{cases_Bool, and_parts, and_from, and_cases, or_cases, leb-true, le-leb}
+use Rattle.std.proofs.lemmas.Bool.{and_parts, and_from, and_cases, or_cases, leb-true, le-leb}
 use Rattle.std.proofs.lemmas.Int.{ints, clamps}
 use Rattle.fx_whole.specs.Nearest.{nearest}
 use Rattle.fx_whole.proofs.NearestLaws.{nearest-mono, nearest-multiple}

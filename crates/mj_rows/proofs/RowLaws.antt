@@ -1,9 +1,9 @@
 -- Rows whose Jacobian is written, and their faults.
-use Rattle.std.proofs.Common.{◌≡◌, ℕ, ◌+◌, ◌-◌, ◌^◌, ◌<◌, ◌≤◌, Bool, false, ℤ, pos, unsigned_abs, List, length, Option, Some, None, refl, sym, ap, ap₂, ◌∙◌, subst, arith}
+use Rattle.std.proofs.Common.{◌≡◌, ℕ, ◌+◌, ◌^◌, ◌<◌, ◌≤◌, false, ℤ, unsigned_abs, List, length, Some, None, refl, sym, ap, ap₂, ◌∙◌, subst}
 use Rattle.std.proofs.Math.Path.{fun_ext}
-use Rattle.std.specs.Prelude.{nat_le, neg_ℤ}
+use Rattle.std.specs.Prelude.{neg_ℤ}
 use Rattle.std.proofs.lemmas.Bool.{cond-true, le-leb}
-use Rattle.fx_whole.proofs.FirstLaws.{first_none, or_pass, stop_first, pass_first}
+use Rattle.fx_whole.proofs.FirstLaws.{first_none, or_pass, stop_first}
 use Rattle.fx_num.specs.declared.number.Number.{Number}
 use Rattle.mj_types.specs.declared.model.Model.{Model}
 use Rattle.mj_types.specs.declared.parts.Equality.{Equality}
@@ -13,11 +13,11 @@ use Rattle.mj_types.specs.declared.range.Quantity.TheVariants as kind
 use Rattle.mj_types.specs.declared.rows.Row.{Row}
 use Rattle.mj_types.specs.declared.rows.Source.TheVariants as source
 use Rattle.mj_types.specs.declared.state.State.{State}
-use Rattle.mj_types.specs.Parts.{equality, joint, tendon, number_at}
-use Rattle.mj_types.specs.Ranges.{is_within, unless, limited}
+use Rattle.mj_types.specs.Parts.{equality, tendon, number_at}
+use Rattle.mj_types.specs.Ranges.{is_within, limited}
 use Rattle.mj_rows.specs.declared.limits.Extent.{Extent}
 use Rattle.mj_rows.specs.Constraint.{Constraint, row_of, no_lever, violation_fault, levers_fault, jacobian_fault, row_fault}
-use Rattle.mj_rows.specs.Joints.{one, at_joint, violation, equality_of, equality_slope, friction_of, friction_with, most_friction}
+use Rattle.mj_rows.specs.Joints.{one, at_joint, violation, equality_of, equality_slope, friction_of}
 use Rattle.mj_rows.specs.Limits.{limit, above_least, below_greatest, joint_extent, low_limit, high_limit, tendon_extent, tendon_slope, tendon_low_limit, tendon_high_limit}
 use Rattle.mj_rows.specs.Extents.{AreTerms}
 use Rattle.mj_rows.specs.Working.{IsWritten}

@@ -1,5 +1,5 @@
 -- Sizes of sums with one number more, and numbers past the end of a list.
-use Rattle.std.proofs.Common.{◌≡◌, ℕ, ◌+◌, ◌-◌, ◌^◌, ◌<◌, ◌≤◌, Bool, ℤ, pos, ◌+ℤ◌, unsigned_abs, List, length, sym, ap, subst, arith, le_trans}
+use Rattle.std.proofs.Common.{◌≡◌, ℕ, ◌+◌, ◌≤◌, Bool, ℤ, pos, ◌+ℤ◌, unsigned_abs, List, length, sym, ap, subst, arith, le_trans}
 use Rattle.std.proofs.lemmas.List.{get_or_past}
 use Rattle.fx_whole.specs.Sums.{when}
 use Rattle.fx_whole.proofs.Ring.{abs-add}

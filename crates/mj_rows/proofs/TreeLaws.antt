@@ -2,10 +2,8 @@
 use Rattle.std.proofs.Common.{◌≡◌, ℕ, zero, suc, ◌+◌, ◌-◌, ◌<◌, ◌≤◌, ◌==◌, length, ◌∙◌, arith, inl, inr}
 use Rattle.std.proofs.lemmas.Bool.{cases_eq, eq-eqb, ne_eqb, cond-true, cond-false}
 use Rattle.mj_types.specs.declared.model.Model.{Model}
-use Rattle.mj_types.specs.declared.parts.JointKind.{JointKind}
-use Rattle.mj_types.specs.declared.parts.JointKind.TheVariants.{Free, Ball, Hinge, Slide}
 use Rattle.mj_types.specs.Lawful.{velocities_before}
-use Rattle.mj_types.specs.Parts.{body, dof, joint, velocity_count}
+use Rattle.mj_types.specs.Parts.{body, dof, joint}
 use Rattle.mj_rows.proofs.JointLaws.{some_velocity}
 
 -- it stands at the body or before it

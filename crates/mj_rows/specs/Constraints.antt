@@ -1,6 +1,6 @@
 -- All constraints of a state, in order: each equality, each joint's friction, each joint's limits, each tendon's limits, each contact's
 -- edges. MuJoCo documentation, Computation, constraints; the order within a kind is this project's own.
-use Rattle.std.specs.Prelude.{ℕ, ◌+◌, ℤ, pos, List, [], ◌∷◌, ◌++◌, length, slice_index_or, Option, None}
+use Rattle.std.specs.Prelude.{ℕ, ℤ, pos, List, [], ◌∷◌, ◌++◌, length, slice_index_or, Option}
 use Rattle.fx_whole.specs.Joined.{joined}
 use Rattle.mj_types.specs.declared.carriers.Applied.{Applied}
 use Rattle.mj_types.specs.declared.carriers.Contact.{Contact}

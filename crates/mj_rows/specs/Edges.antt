@@ -18,7 +18,7 @@ use Rattle.mj_types.specs.Parts.{body, dof, parent_of, body_of}
 use Rattle.mj_types.specs.Placed.{Placing}
 use Rattle.mj_contact.specs.Lists.{margin}
 use Rattle.mj_rows.specs.Constraint.{Constraint, pushing}
-use Rattle.mj_rows.specs.Mixing.{first_geom, second_geom, friction, is_smooth, mixed}
+use Rattle.mj_rows.specs.Mixing.{first_geom, second_geom, friction, is_frictionless, mixed}
 
 -- ---- how dofs move its two geoms apart
 -- the velocity of a point that moves with s, from its place about the point that s is about
@@ -68,10 +68,10 @@ edge_of m x c k edge =
 
 -- one edge without friction, which is edge 0, and four with it, from edge 1 on
 abbrev pub edge_count : Model → Contact → ℕ
-edge_count m c = cond (is_smooth (first_geom m c) (second_geom m c)) 1 4
+edge_count m c = cond (is_frictionless (first_geom m c) (second_geom m c)) 1 4
 
 abbrev pub first_edge : Model → Contact → ℕ
-first_edge m c = cond (is_smooth (first_geom m c) (second_geom m c)) 0 1
+first_edge m c = cond (is_frictionless (first_geom m c) (second_geom m c)) 0 1
 
 abbrev pub edges : Model → Placing → Contact → ℕ → List Constraint
 edges m x c k = joined (edge_count m c) (λ i. edge_of m x c k (first_edge m c + i) ∷ [])

@@ -1,5 +1,5 @@
 -- Limits of joints and of tendons: a position or a length is held within its range. MuJoCo documentation, Computation, constraints: limit.
-use Rattle.std.specs.Prelude.{ℕ, ◌+◌, ◌-◌, ◌&&◌, Bool, cond, ℤ, pos, ◌-ℤ◌, neg_ℤ, int_lt, is_some, List, [], ◌∷◌, ◌++◌, length, slice_index_or, Option, None, Some}
+use Rattle.std.specs.Prelude.{ℕ, ◌+◌, ◌-◌, ◌&&◌, Bool, cond, ℤ, pos, ◌-ℤ◌, neg_ℤ, int_lt, is_some, List, [], ◌∷◌, ◌++◌, length, Option, None, Some}
 use Rattle.fx_whole.specs.Sums.{sum_to}
 use Rattle.mj_types.specs.declared.model.Model.{Model}
 use Rattle.mj_types.specs.declared.parts.Range.{Range}

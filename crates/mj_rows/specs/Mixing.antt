@@ -27,8 +27,8 @@ friction a b = larger a.friction.mid b.friction.mid
 abbrev pub dimension : Geom → Geom → ℕ
 dimension a b = cond (nat_lt a.condim b.condim) b.condim a.condim
 
-abbrev pub is_smooth : Geom → Geom → Bool
-is_smooth a b = dimension a b == 1
+abbrev pub is_frictionless : Geom → Geom → Bool
+is_frictionless a b = dimension a b == 1
 
 -- the mean of two numbers, and the smaller
 abbrev pub mean : {F : ℕ} → Number (Unit {0}) F → Number (Unit {0}) F → Number (Unit {0}) F

@@ -15,7 +15,7 @@ ghost use Rattle.mj_rows.specs.Slopes.{AreSlopes, slope_at};
 ghost use Rattle.mj_rows.specs.Working.{IsReady, IsWritten};
 
 use crate::limits::less;
-use crate::mixing::{friction, geom_of, is_smooth, mixed};
+use crate::mixing::{friction, geom_of, is_frictionless, mixed};
 use crate::pushing::pushing;
 use crate::slopes::Slope;
 use fx_num::{Fix, Number, Wide, narrow_within};
@@ -179,7 +179,7 @@ pub fn edge_count(model: &Model, contact: &Contact) -> usize
     ensures value { result ≡ spec.edge_count model.now contact.now }
     ensures few { result ≤ 4 }
 {
-    if is_smooth(geom_of(model, contact.a), geom_of(model, contact.b)) {
+    if is_frictionless(geom_of(model, contact.a), geom_of(model, contact.b)) {
         1
     } else {
         4
@@ -191,7 +191,7 @@ pub fn first_edge(model: &Model, contact: &Contact) -> u32
     requires { IsUsable (length model.now.geoms) contact.now }
     ensures { result ≡ spec.first_edge model.now contact.now }
 {
-    if is_smooth(geom_of(model, contact.a), geom_of(model, contact.b)) {
+    if is_frictionless(geom_of(model, contact.a), geom_of(model, contact.b)) {
         0
     } else {
         1

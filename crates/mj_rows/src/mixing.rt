@@ -32,8 +32,8 @@ pub(crate) fn friction(a: &Geom, b: &Geom) -> Fix<32>
 }
 
 /// Whether neither of two geoms has friction.
-pub(crate) fn is_smooth(a: &Geom, b: &Geom) -> bool
-    ensures { result ≡ spec.is_smooth a.now b.now }
+pub(crate) fn is_frictionless(a: &Geom, b: &Geom) -> bool
+    ensures { result ≡ spec.is_frictionless a.now b.now }
 {
     if a.condim < b.condim {
         b.condim == 1

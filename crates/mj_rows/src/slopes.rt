@@ -46,7 +46,12 @@ fn negative(n: &Fix<32>) -> Fix<32>
 }
 
 // What the second geom moves by more than the first along a direction, where what moves does so at `e`.
-pub(crate) fn slope_along(first: bool, second: bool, n: &V3<Plain, 32>, e: &V3<Plain, 32>) -> Fix<32>
+pub(crate) fn slope_along(
+    first: bool,
+    second: bool,
+    n: &V3<Plain, 32>,
+    e: &V3<Plain, 32>,
+) -> Fix<32>
     requires direction { Within (mids n.now) (2 ^ 34) }
     requires velocity { Within (mids e.now) (2 ^ 48) }
     ensures { result.mid ≡ spec.apart first second (along (mids n.now) (mids e.now)) }

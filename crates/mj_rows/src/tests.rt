@@ -120,23 +120,11 @@ fn a_hinge_and_a_slide_move_a_point(rt: HostRuntime) {
     let zero = vector(0, 0, 0);
     let up = vector(0, 0, 1 << 32);
     let arm = vector(2 << 32, 0, 0);
-    let turned = velocity(
-        &Vector6 {
-            ang: up,
-            lin: zero,
-        },
-        &arm,
-    );
+    let turned = velocity(&Vector6 { ang: up, lin: zero }, &arm);
     assert_eq!(rt; turned.x.raw, 0);
     assert_eq!(rt; turned.y.raw, 2 << 32);
     assert_eq!(rt; turned.z.raw, 0);
-    let slid = velocity(
-        &Vector6 {
-            ang: zero,
-            lin: up,
-        },
-        &arm,
-    );
+    let slid = velocity(&Vector6 { ang: zero, lin: up }, &arm);
     assert_eq!(rt; slid.y.raw, 0);
     assert_eq!(rt; slid.z.raw, 1 << 32);
 }

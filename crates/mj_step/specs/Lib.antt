@@ -1,3 +1,4 @@
+pub mod Covered
 pub mod Smooth
 pub mod Steps
 pub mod Workspace

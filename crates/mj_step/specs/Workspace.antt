@@ -1,9 +1,11 @@
 -- Which workspaces are made for a model, and what they hold after each part of a step.
-use Rattle.std.specs.Prelude.{◌≡◌, ℕ, ◌<◌, ◌≤◌, ◌^◌, List, length, unsigned_abs, slice_index_or}
+use Rattle.std.specs.Prelude.{◌≡◌, ℕ, ◌<◌, ◌≤◌, ◌^◌, List, [], length, unsigned_abs, slice_index_or}
 use Rattle.fx_num.specs.declared.number.Number.{Number}
 use Rattle.mj_types.specs.declared.model.Model.{Model}
 use Rattle.mj_types.specs.declared.state.State.{State}
 use Rattle.mj_types.specs.declared.carriers.Mass.{Mass}
+use Rattle.mj_types.specs.declared.dual.Dual.{Dual}
+use Rattle.mj_types.specs.declared.rows.Rows.{Rows}
 use Rattle.mj_types.specs.BiasRooms.{BiasRoom}
 use Rattle.mj_types.specs.Control.{Control}
 use Rattle.mj_types.specs.FactorRooms.{FactorRoom}
@@ -47,3 +49,9 @@ pub record HasBias (m : Model) (s : State) (c : List (Number ℕ 32)) : Type 0 w
 pub record HasLoad (m : Model) (s : State) (u : List Control) (x : List Control) : Type 0 where
   pub value : number_at x ≡ load m s u
   pub small : (i : ℕ) → i < m.nv → unsigned_abs (number_at x i) ≤ 2 ^ 54
+
+-- ---- after a step without constraint rows
+pub record IsRowless (rows : Rows) (dual : Dual) : Type 0 where
+  pub list : rows.list.list ≡ []
+  pub jacobian : rows.jac.list ≡ []
+  pub empty : dual.m ≡ 0

@@ -8,6 +8,6 @@ pub mod smooth;
 mod tests;
 pub mod work;
 
-pub use laws::{bias_radius_covers, mass_radius_covers};
+pub use laws::steps_are_covered;
 pub use smooth::is_smooth;
 pub use work::Work;

@@ -13,7 +13,7 @@ ghost use Rattle.mj_euler.specs.Written.{StateRoom};
 ghost use Rattle.mj_passive.specs.Forces.{AreControls, applied_fault};
 ghost use Rattle.mj_step.specs.Steps as spec;
 ghost use Rattle.mj_step.specs.Smooth.{is_smooth};
-ghost use Rattle.mj_step.specs.Workspace.{MadeFor, HasMass, HasBias, HasLoad};
+ghost use Rattle.mj_step.specs.Workspace.{MadeFor, HasMass, HasBias, HasLoad, IsRowless};
 
 use crate::report::{clear_rows, copy_into, fill_load, largest_bias_radius, largest_mass_radius};
 use fx_list::Array;
@@ -271,6 +271,12 @@ impl Work {
             ≡ spec.step_values model.now state.old controls.now) }
         ensures count { IfOk result (λ _. self.new.report.count
             ≡ length self.new.report.rows.list) }
+        ensures mass { IfOk result (λ _. HasMass model.now state.old self.new.mass) }
+        ensures load { IfOk result
+            (λ _. HasLoad model.now state.old controls.now self.new.load) }
+        ensures smooth { IfOk result (λ _. number_at self.new.smooth.items
+            ≡ spec.acceleration model.now state.old controls.now) }
+        ensures rowless { IfOk result (λ _. IsRowless self.new.rows self.new.dual) }
         ensures kept { IfErr result (λ _. state.new ≡ state.old) }
         ensures flag { self.new.is_done ≡ is_ok result }
     {
@@ -349,6 +355,12 @@ impl Work {
             ≡ spec.step_values model.now state.now controls.now) }
         ensures count { IfOk result (λ _. self.new.report.count
             ≡ length self.new.report.rows.list) }
+        ensures mass { IfOk result (λ _. HasMass model.now state.now self.new.mass) }
+        ensures load { IfOk result
+            (λ _. HasLoad model.now state.now controls.now self.new.load) }
+        ensures smooth { IfOk result (λ _. number_at self.new.smooth.items
+            ≡ spec.acceleration model.now state.now controls.now) }
+        ensures rowless { IfOk result (λ _. IsRowless self.new.rows self.new.dual) }
         ensures flag { self.new.is_done ≡ self.old.is_done }
     {
         self.weigh(model, state)?;
@@ -453,6 +465,10 @@ impl Work {
         ensures report { values_of self.new.next self.new.report
             ≡ spec.step_values model.now state.now controls.now }
         ensures count { self.new.report.count ≡ length self.new.report.rows.list }
+        ensures mass { self.new.mass ≡ self.old.mass }
+        ensures load { self.new.load ≡ self.old.load }
+        ensures smooth { self.new.smooth ≡ self.old.smooth }
+        ensures rowless { IsRowless self.new.rows self.new.dual }
         ensures flag { self.new.is_done ≡ self.old.is_done }
     {
         copy_into(&mut self.report.accel, self.smooth.as_slice());

@@ -10,8 +10,7 @@ use crate::judge::push_record;
 use csv::{ByteRecord, ReaderBuilder};
 use fx_list::Array;
 use fx_num::Fix;
-use mj_slide::SlideModel;
-use mj_types::{Tape, TapeFault};
+use mj_types::{Model, Tape, TapeFault};
 use std::alloc::Global;
 
 // The greatest length of a tape's file.
@@ -83,6 +82,24 @@ fn unless_short(read: Records, width: usize, steps: u32) -> Result<Tape, TapeFau
     })
 }
 
+// The tape for so many motors.
+pub(crate) fn tape_of_width(
+    alloc: Global,
+    width: usize,
+    bytes: &[u8],
+    steps: u32,
+    room: usize,
+) -> Result<Tape, TapeFault>
+    ensures { OrMemory TapeFault.Memory (spec.seen result)
+        (spec.tape_verdict width steps room bytes.now) }
+{
+    if bytes.len() > FILE_LIMIT {
+        return Err(TapeFault::TooLarge);
+    }
+    let read = read_records(alloc, bytes, width, room)?;
+    unless_short(read, width, steps)
+}
+
 /// The tape of a run of this many steps for a model, from a file's bytes, with room for this many
 /// values. The file is comma-separated values without headers: record k holds the controls of step k,
 /// one for each motor, each a decimal numeral of at most 2^20 in size. Records past the steps are
@@ -96,7 +113,7 @@ fn unless_short(read: Records, width: usize, steps: u32) -> Result<Tape, TapeFau
 /// where memory was wanted and not found.
 pub fn tape(
     alloc: Global,
-    model: &SlideModel,
+    model: &Model,
     bytes: &[u8],
     steps: u32,
     room: usize,
@@ -104,12 +121,7 @@ pub fn tape(
     ensures { OrMemory TapeFault.Memory (spec.seen result)
         (spec.tape_verdict (length model.now.motors) steps room bytes.now) }
 {
-    if bytes.len() > FILE_LIMIT {
-        return Err(TapeFault::TooLarge);
-    }
-    let width = model.motors.as_slice().len();
-    let read = read_records(alloc, bytes, width, room)?;
-    unless_short(read, width, steps)
+    tape_of_width(alloc, model.motors.len(), bytes, steps, room)
 }
 
 /// Value j of row k of an accepted tape is the control that field j of record k writes. It has a row

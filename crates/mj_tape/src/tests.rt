@@ -1,10 +1,7 @@
 // What no clause says: examples, and that calls can succeed.
 use super::*;
-use fx_list::Array;
-use fx_num::Number;
-use mj_slide::{SlideModel, SlideMotor};
 use mj_types::{Tape, TapeFault};
-use std::alloc::{AllocError, Global};
+use std::alloc::Global;
 use std::test::Fail;
 
 fn is_shared<T: Send + Sync>() {}
@@ -20,26 +17,13 @@ fn the_law_can_be_cited() {
     tapes_hold_their_fields();
 }
 
-fn model(alloc: Global, motors: usize) -> Result<SlideModel, AllocError> {
-    let motor = SlideMotor {
-        gear: Number::from_raw(1),
-        ctrlrange: None,
-    };
-    Ok(SlideModel {
-        h: Number::from_raw(8_589_935),
-        gravity: Number::from_raw(0),
-        mass: 1,
-        motors: Array::from_vec(vec![in alloc; motor; motors]?),
-    })
-}
-
 fn read(
     alloc: Global,
     motors: usize,
     text: &[u8],
     steps: u32,
 ) -> Result<Result<Tape, TapeFault>, Fail> {
-    Ok(tape(alloc, &model(alloc, motors)?, text, steps, 100))
+    Ok(reading::tape_of_width(alloc, motors, text, steps, 100))
 }
 
 fn fault(alloc: Global, motors: usize, text: &[u8], steps: u32) -> Result<Option<TapeFault>, Fail> {
@@ -111,19 +95,21 @@ fn a_model_without_motors_takes_no_record(rt: HostRuntime) -> Result<(), Fail> {
 
 #[test]
 fn room_is_counted(rt: HostRuntime) -> Result<(), Fail> {
-    let model = model(rt.alloc(), 2)?;
     let text = b"1,2\n3,4\n5,6\n";
-    assert_eq!(rt; tape(rt.alloc(), &model, text, 1, 6).err(), None);
     assert_eq!(rt;
-        tape(rt.alloc(), &model, text, 1, 5).err(),
+        reading::tape_of_width(rt.alloc(), 2, text, 1, 6).err(),
+        None
+    );
+    assert_eq!(rt;
+        reading::tape_of_width(rt.alloc(), 2, text, 1, 5).err(),
         Some(TapeFault::TooLarge)
     );
     assert_eq!(rt;
-        tape(rt.alloc(), &model, b"1,2\n3,4\n5,x\n", 1, 4).err(),
+        reading::tape_of_width(rt.alloc(), 2, b"1,2\n3,4\n5,x\n", 1, 4).err(),
         Some(TapeFault::TooLarge)
     );
     assert_eq!(rt;
-        tape(rt.alloc(), &model, b"1,2\n3,x\n5,6\n", 1, 4).err(),
+        reading::tape_of_width(rt.alloc(), 2, b"1,2\n3,x\n5,6\n", 1, 4).err(),
         Some(TapeFault::BadNumber(2, 2))
     );
     Ok(())

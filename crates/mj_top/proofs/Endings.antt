@@ -1,9 +1,9 @@
 -- Laws of how a command ends.
-use Rattle.std.proofs.Common.{◌≡◌, inl, inr, ℕ, Bool, List, Option, Some, None, Result, Ok, Err, option_map, refl, sym, ap, ◌∙◌, subst}
+use Rattle.std.proofs.Common.{◌≡◌, inl, inr, ℕ, Bool, List, Option, Some, None, Result, Ok, Err, option_map, cond, length, take, refl, sym, ap, ◌∙◌, subst}
 use Rattle.mj_io.specs.Faults.{Rose}
 use Rattle.mj_io.specs.Growth.{Grew}
 use Rattle.mj_io.specs.Sent.{Wrote}
-use Rattle.mj_slide.specs.declared.slide.SlideModel.{SlideModel}
+use Rattle.mj_types.specs.declared.model.Model.{Model}
 use Rattle.mj_types.specs.declared.range.End.{End}
 use Rattle.mj_types.specs.declared.range.End.TheVariants as finish
 use Rattle.mj_types.specs.declared.status.ModelFault.{ModelFault}
@@ -11,11 +11,13 @@ use Rattle.mj_types.specs.declared.status.Status.{Status}
 use Rattle.mj_types.specs.declared.status.Status.TheVariants as status
 use Rattle.mj_types.specs.declared.tape.TapeFault.{TapeFault}
 use Rattle.mj_tape.specs.Judging.{TapeValues}
-use Rattle.mj_top.specs.Controls.{tape_control}
-use Rattle.mj_top.specs.Run.{run}
-use Rattle.mj_top.specs.Words.{bad_place}
-use Rattle.mj_top.specs.Outcome.{Outcome, words_refused, status_of, with_tape, with_tape_file, with_model, outcome}
-use Rattle.mj_top.specs.Ends.{Answers, WritesNothing, HasCause, Completes, ReadRose, TapeRose, HasTapeCause, Ends, EndsOrMemory, unless_failed}
+use Rattle.mj_top.specs.Controls.{controls_at}
+use Rattle.mj_top.specs.Run.{end_of}
+use Rattle.mj_step.specs.Smooth.{is_smooth}
+use Rattle.mj_valid.specs.Judging.{told, judged_bytes}
+use Rattle.mj_top.specs.Words.{bad_place, model_of, step_count, tape_of}
+use Rattle.mj_top.specs.Outcome.{Outcome, IsOutcome, IsFileOutcome, IsWordsOutcome, words_refused, status_of, with_tape, with_tape_file, with_tape_name, with_model, model_refused, not_built, model_cap}
+use Rattle.mj_top.specs.Ends.{Answers, WritesNothing, HasCause, Completes, IsMeant, ReadRose, TapeRose, HasTapeCause, Ends, EndsOrMemory, unless_failed}
 
 -- a status that tells of an outcome, and of no fault
 abbrev pub IsTold : Status → Type 0
@@ -37,23 +39,31 @@ pub later-status_of : (end : End) → IsLater (status_of end)
 later-status_of finish.Done = tt
 later-status_of (finish.OutOfRange step kind index) = tt
 
-pub later-with_tape : (n : ℕ) (model : SlideModel) (answer : Result TapeValues TapeFault) → IsLater (with_tape n model answer).status
-later-with_tape n model (Ok tape) = later-status_of (run model (tape_control (Some tape)) n).finish
-later-with_tape n model (Err fault) = tt
-
-same_status : (o : Option Outcome) (x y : Outcome) (answer : Status) → o ≡ Some x → o ≡ Some y → answer ≡ y.status → answer ≡ x.status
-same_status o x y answer e d s = let same : y ≡ x = cc in s ∙ ap (λ z. z.status) same
+pub later-with_tape : (n : ℕ) (m : Model) (answer : Result TapeValues TapeFault) → IsLater (with_tape n m answer).status
+later-with_tape n m (Ok tape) = later-status_of (end_of m (controls_at (length m.motors) (Some tape)) n)
+later-with_tape n m (Err fault) = tt
 
 -- an answer with its cause is the outcome's where no count rose
-pub completes : (words : List (List ℕ)) (tells : Bool) (held : List ℕ → Option (List ℕ)) (o : Option Outcome) (outcome : Outcome) (answer : Status) (old new : Option (List ℕ)) (reads reads' : List ℕ → ℕ) (writes writes' : ℕ) → o ≡ Some outcome → Answers o answer old new → HasCause words tells held answer reads reads' writes writes' → Completes words tells held outcome answer reads reads' writes writes'
-completes words tells held o outcome status.Done old new reads reads' writes writes' e answers cause quiet silent = inr (same_status o outcome answers.0 status.Done e answers.1 answers.2.same)
-completes words tells held o outcome (status.BadWords at) old new reads reads' writes writes' e answers cause quiet silent = inr (same_status o outcome answers.0 (status.BadWords at) e answers.1 answers.2.same)
-completes words tells held o outcome (status.OutOfRange step kind index) old new reads reads' writes writes' e answers cause quiet silent = inr (same_status o outcome answers.0 (status.OutOfRange step kind index) e answers.1 answers.2.same)
-completes words tells held o outcome (status.BadModel fault) old new reads reads' writes writes' e answers cause quiet silent = inr (same_status o outcome answers.0 (status.BadModel fault) e answers.1 answers.2.same)
-completes words tells held o outcome (status.BadTape tape fault) old new reads reads' writes writes' e answers cause quiet silent = inr (same_status o outcome answers.0 (status.BadTape tape fault) e answers.1 answers.2.same)
-completes words tells held o outcome status.ReadFault old new reads reads' writes writes' e answers cause quiet silent = absurd (quiet cause.1)
-completes words tells held o outcome status.WriteFault old new reads reads' writes writes' e answers cause quiet silent = absurd (silent cause)
-completes words tells held o outcome status.Memory old new reads reads' writes writes' e answers cause quiet silent = inl refl
+pub completes : (words : List (List ℕ)) (tells : Bool) (held : List ℕ → Option (List ℕ)) (answer : Status) (old new : Option (List ℕ)) (reads reads' : List ℕ → ℕ) (writes writes' : ℕ) → Answers (IsOutcome words held) answer old new → HasCause words tells held answer reads reads' writes writes' → Completes words tells held answer reads reads' writes writes'
+completes words tells held status.Done old new reads reads' writes writes' answers cause quiet silent = inr (answers.0, answers.1, answers.2.same)
+completes words tells held (status.BadWords at) old new reads reads' writes writes' answers cause quiet silent = inr (answers.0, answers.1, answers.2.same)
+completes words tells held (status.OutOfRange step kind index) old new reads reads' writes writes' answers cause quiet silent = inr (answers.0, answers.1, answers.2.same)
+completes words tells held (status.BadModel fault) old new reads reads' writes writes' answers cause quiet silent = inr (answers.0, answers.1, answers.2.same)
+completes words tells held (status.BadTape tape fault) old new reads reads' writes writes' answers cause quiet silent = inr (answers.0, answers.1, answers.2.same)
+completes words tells held status.ReadFault old new reads reads' writes writes' answers cause quiet silent = absurd (quiet cause.1)
+completes words tells held status.WriteFault old new reads reads' writes writes' answers cause quiet silent = absurd (silent cause)
+completes words tells held status.Memory old new reads reads' writes writes' answers cause quiet silent = inl refl
+
+-- what answers one meaning answers another that it is within
+pub answers-within : (Meant Wider : Outcome → Type 0) (answer : Status) (old new : Option (List ℕ)) → ((o : Outcome) → Meant o → Wider o) → Answers Meant answer old new → Answers Wider answer old new
+answers-within Meant Wider status.Done old new within answers = (answers.0, within answers.0 answers.1, answers.2)
+answers-within Meant Wider (status.BadWords at) old new within answers = (answers.0, within answers.0 answers.1, answers.2)
+answers-within Meant Wider (status.OutOfRange step kind index) old new within answers = (answers.0, within answers.0 answers.1, answers.2)
+answers-within Meant Wider (status.BadModel fault) old new within answers = (answers.0, within answers.0 answers.1, answers.2)
+answers-within Meant Wider (status.BadTape tape fault) old new within answers = (answers.0, within answers.0 answers.1, answers.2)
+answers-within Meant Wider status.ReadFault old new within answers = answers
+answers-within Meant Wider status.WriteFault old new within answers = (answers.0, within answers.0 answers.1, answers.2)
+answers-within Meant Wider status.Memory old new within answers = answers
 
 module _ {K : Type 0} (holds : K → Option (List ℕ)) (faults : K → ℕ) (a b : K) where
   -- the whole text was written
@@ -76,23 +86,23 @@ module _ {K : Type 0} (holds : K → Option (List ℕ)) (faults : K → ℕ) (a 
       let P = λ (s : Status). Ends holds faults outcome a s b in
       subst P (sym e) (wrote.part, wrote.cause)
 
-  -- what ends so answers the outcome
-  pub answers-from_ends : (o : Option Outcome) (outcome : Outcome) (answer : Status) → o ≡ Some outcome → Ends holds faults outcome a answer b → Answers o answer (holds a) (holds b)
-  answers-from_ends o outcome status.Done e ends = (outcome, e, ends)
-  answers-from_ends o outcome (status.BadWords at) e ends = (outcome, e, ends)
-  answers-from_ends o outcome (status.OutOfRange step kind index) e ends = (outcome, e, ends)
-  answers-from_ends o outcome (status.BadModel fault) e ends = (outcome, e, ends)
-  answers-from_ends o outcome (status.BadTape tape fault) e ends = (outcome, e, ends)
-  answers-from_ends o outcome status.ReadFault e ends = absurd ends
-  answers-from_ends o outcome status.WriteFault e ends = (outcome, e, ends.0)
-  answers-from_ends o outcome status.Memory e ends = absurd ends
+  -- what ends so answers any meaning of the outcome
+  pub answers-from_ends : (Meant : Outcome → Type 0) (outcome : Outcome) (answer : Status) → Meant outcome → Ends holds faults outcome a answer b → Answers Meant answer (holds a) (holds b)
+  answers-from_ends Meant outcome status.Done e ends = (outcome, e, ends)
+  answers-from_ends Meant outcome (status.BadWords at) e ends = (outcome, e, ends)
+  answers-from_ends Meant outcome (status.OutOfRange step kind index) e ends = (outcome, e, ends)
+  answers-from_ends Meant outcome (status.BadModel fault) e ends = (outcome, e, ends)
+  answers-from_ends Meant outcome (status.BadTape tape fault) e ends = (outcome, e, ends)
+  answers-from_ends Meant outcome status.ReadFault e ends = absurd ends
+  answers-from_ends Meant outcome status.WriteFault e ends = (outcome, e, ends.0)
+  answers-from_ends Meant outcome status.Memory e ends = absurd ends
 
   -- the same, where memory may have been wanted
-  pub answers-from_either : (o : Option Outcome) (outcome : Outcome) (answer : Status) → o ≡ Some outcome → EndsOrMemory holds faults outcome a answer b → Answers o answer (holds a) (holds b)
-  answers-from_either o outcome answer e (inl wanted) =
-      let P = λ (s : Status). Answers o s (holds a) (holds b) in
+  pub answers-from_either : (Meant : Outcome → Type 0) (outcome : Outcome) (answer : Status) → Meant outcome → EndsOrMemory holds faults outcome a answer b → Answers Meant answer (holds a) (holds b)
+  answers-from_either Meant outcome answer e (inl wanted) =
+      let P = λ (s : Status). Answers Meant s (holds a) (holds b) in
       subst P (sym wanted.0) (ap holds wanted.1)
-  answers-from_either o outcome answer e (inr ends) = answers-from_ends o outcome answer e ends
+  answers-from_either Meant outcome answer e (inr ends) = answers-from_ends Meant outcome answer e ends
 
   pub nothing-from_ends : (outcome : Outcome) (answer : Status) → Ends holds faults outcome a answer b → WritesNothing answer (holds a) (holds b)
   nothing-from_ends outcome status.Done ends = tt
@@ -160,8 +170,18 @@ tape_cause-earlier tape status.ReadFault reads between reads' writes writes' low
 tape_cause-earlier tape status.WriteFault reads between reads' writes writes' lower cause = cause
 tape_cause-earlier tape status.Memory reads between reads' writes writes' lower cause = tt
 
--- a model's outcome is the same for files that are held alike
-pub with_model-same : (held held' : List ℕ → Option (List ℕ)) (n : ℕ) (tape : Option (List ℕ)) (judged : Result SlideModel ModelFault) → ((name : List ℕ) → held' name ≡ held name) → with_model held' n tape judged ≡ with_model held n tape judged
-with_model-same held held' n None (Ok model) same = refl
-with_model-same held held' n (Some name) (Ok model) same = ap (option_map (with_tape_file n model)) (same name)
+-- ---- outcomes are the same for files that are held alike
+with_tape_name-same : (held held' : List ℕ → Option (List ℕ)) (n : ℕ) (m : Model) (tape : Option (List ℕ)) → ((name : List ℕ) → held' name ≡ held name) → with_tape_name held' n m tape ≡ with_tape_name held n m tape
+with_tape_name-same held held' n m None same = refl
+with_tape_name-same held held' n m (Some name) same = ap (option_map (with_tape_file n m)) (same name)
+
+with_model-same : (held held' : List ℕ → Option (List ℕ)) (n : ℕ) (tape : Option (List ℕ)) (judged : Result Model ModelFault) → ((name : List ℕ) → held' name ≡ held name) → with_model held' n tape judged ≡ with_model held n tape judged
+with_model-same held held' n tape (Ok m) same = ap (λ o. cond (is_smooth m) o (Some (model_refused not_built))) (with_tape_name-same held held' n m tape same)
 with_model-same held held' n tape (Err fault) same = refl
+
+-- the outcome of the model's file is the command's
+pub file_outcome-is : (words : List (List ℕ)) (held held' : List ℕ → Option (List ℕ)) (file bytes : List ℕ) → bad_place words ≡ None → ((name : List ℕ) → held' name ≡ held name) → held (model_of words) ≡ Some file → bytes ≡ take model_cap file → (o : Outcome) → IsFileOutcome held' (step_count words) (tape_of words) bytes o → IsOutcome words held o
+file_outcome-is words held held' file bytes good same kept e o meant =
+    let P = λ (p : Option ℕ). IsWordsOutcome held words p o in
+    let Q = λ (b : List ℕ). told meant.0 ≡ judged_bytes b in
+    subst P (sym good) (file, kept, (meant.0, subst Q e meant.1, sym (with_model-same held held' (step_count words) (tape_of words) meant.0 same) ∙ meant.2))

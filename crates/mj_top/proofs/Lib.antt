@@ -1,12 +1,6 @@
-pub mod Arrays
+pub mod Accepted
+pub mod ControlLaws
 pub mod Endings
 pub mod Firsts
-pub mod Judged
-pub mod Lawful
-pub mod MotorList
-pub mod Moves
-pub mod Options
-pub mod Parts
 pub mod Served
 pub mod Steps
-pub mod Accepted

@@ -1,13 +1,7 @@
 -- What an accepted tape serves.
 use Rattle.std.proofs.Common.{◌≡◌, ◌⊎◌, inl, inr, ℕ, ◌*◌, ◌^◌, ◌≤◌, unsigned_abs, pos, Bool, true, false, nat_lt, List, length, Option, Some, None, Result, Ok, Err, refl, sym, ap, arith, ltb-false, if◌then◌else◌}
-use Rattle.mj_slide.specs.declared.slide.SlideModel.{SlideModel}
 use Rattle.mj_types.specs.declared.tape.TapeFault.{TapeFault}
 use Rattle.mj_types.specs.declared.tape.TapeFault.TheVariants.{TooLarge, Short}
-use Rattle.std.proofs.lemmas.Bool.{cases_lt}
-use Rattle.mj_top.specs.Lawful.{IsLawful, IsLawfulMotor}
-use Rattle.std.proofs.lemmas.List.{get_or_past}
-use Rattle.std.proofs.lemmas.List.Elements.{All-get_or}
-use Rattle.mj_top.specs.Step.{motor, plain}
 use Rattle.mj_tape.specs.Judging.{TapeValues, tape_verdict, unless_short, records_of, first_fault, record_controls, file_limit}
 
 -- a tape that isn't short has each of the steps
@@ -30,13 +24,3 @@ judged-serves w n room bytes v e = limited (nat_lt file_limit (length bytes)) e
     limited : (b : Bool) → (if b then Err TooLarge else unless_short w n (records_of bytes) (first_fault w room 1 (records_of bytes))) ≡ Ok v → (v.width ≡ w) × (n ≤ v.rows)
     limited true d = absurd cc
     limited false d = unless-serves w n (records_of bytes) (first_fault w room 1 (records_of bytes)) v d
-
--- the gears of an accepted model
-pub lawful-gears : (model : SlideModel) → IsLawful model → (j : ℕ) → unsigned_abs (motor model.motors j).gear.mid ≤ 1024 * 2 ^ 32
-lawful-gears model lawful j =
-    elim (cases_lt j (length model.motors)) [
-      | inl within ↦ (All-get_or IsLawfulMotor model.motors j (record { gear = plain (pos 0); ctrlrange = None }) within lawful.motors).gear
-      | inr past ↦
-          let nothing : motor model.motors j ≡ record { gear = plain (pos 0); ctrlrange = None } = get_or_past model.motors j (record { gear = plain (pos 0); ctrlrange = None }) past in
-          rw nothing (omega arith)
-    ]

@@ -1,27 +1,22 @@
--- The control of each motor in each step, as raw whole numbers: record k of the tape serves step k,
--- and without a tape every control is 0.
-use Rattle.std.specs.Prelude.{◌≡◌, ℕ, ◌<◌, ◌≤◌, ℤ, pos, Option, Some, None}
-use Rattle.fx_whole.specs.Entries.{flat_at}
-use Rattle.mj_types.specs.declared.tape.Tape.{Tape}
+-- The controls of each step: record k of the tape serves the step after k others, and without a tape every control is 0.
+use Rattle.std.specs.Prelude.{◌≡◌, ℕ, ◌*◌, ◌<◌, ◌≤◌, pos, List, map, take, drop, replicate, Option, Some, None}
+use Rattle.mj_types.specs.Control.{Control}
+use Rattle.mj_types.specs.Parts.{plain}
 use Rattle.mj_tape.specs.Judging.{TapeValues, raws}
+use Rattle.mj_top.specs.declared.run.Controls.{Controls}
+use Rattle.mj_top.specs.declared.run.Controls.TheVariants as controls
 
--- the control of motor j in the step after k others
-abbrev pub tape_control : Option TapeValues → ℕ → ℕ → ℤ
-tape_control None k j = pos 0
-tape_control (Some tape) k j = flat_at tape.values tape.width k j
+-- the controls of `width` motors in the step after k others
+abbrev pub controls_at : ℕ → Option TapeValues → ℕ → List Control
+controls_at width None k = replicate width (plain (pos 0))
+controls_at width (Some tape) k = map plain (take width (drop (k * width) tape.values))
 
--- a tape's values
-abbrev pub tape_values : Option Tape → Option TapeValues
-tape_values None = None
-tape_values (Some tape) =
-    Some (record { rows = tape.rows; width = tape.width; values = raws tape.values })
+-- what drives a run, as values
+abbrev pub tape_of : Controls → Option TapeValues
+tape_of (controls.Rest zeros) = None
+tape_of (controls.Taped tape) = Some (record { rows = tape.rows; width = tape.width; values = raws tape.values })
 
--- the tape, where there is one, has a record for each step and a field for each motor
-abbrev pub Serves : Option Tape → ℕ → ℕ → Type 0
-Serves None width steps = Unit {0}
-Serves (Some tape) width steps = (tape.width ≡ width) × (steps ≤ tape.rows)
-
--- the tape, where there is one, has record k and field j
-abbrev pub Holds : Option Tape → ℕ → ℕ → Type 0
-Holds None k j = Unit {0}
-Holds (Some tape) k j = (k < tape.rows) × (j < tape.width)
+-- it has a number for each motor, and the tape a record for each step
+abbrev pub Serves : Controls → ℕ → ℕ → Type 0
+Serves (controls.Rest zeros) width steps = zeros ≡ replicate width (plain (pos 0))
+Serves (controls.Taped tape) width steps = (tape.width ≡ width) × (steps ≤ tape.rows)

@@ -2,13 +2,12 @@
 use Rattle.std.specs.Prelude.{◌≡◌, ◌⊎◌, ℕ, List, Option, Some, None, Result, Ok, Err, Bool, IsTrue, take}
 use Rattle.mj_io.specs.Faults.{Rose}
 use Rattle.mj_io.specs.Growth.{Grew, GrewPart}
+use Rattle.mj_types.specs.declared.model.Model.{Model}
 use Rattle.mj_types.specs.declared.status.Status.{Status}
 use Rattle.mj_types.specs.declared.status.Status.TheVariants as status
-use Rattle.mj_slide.specs.declared.slide.SlideModel.{SlideModel}
-use Rattle.mj_types.specs.declared.status.ModelFault.{ModelFault}
+use Rattle.mj_valid.specs.Judging.{Accepted, accepted_of, judged_bytes}
 use Rattle.mj_top.specs.Words.{bad_place, model_of, tape_of}
-use Rattle.mj_top.specs.Model.{model_verdict}
-use Rattle.mj_top.specs.Outcome.{Outcome, model_cap}
+use Rattle.mj_top.specs.Outcome.{Outcome, IsOutcome, words_refused, model_cap}
 
 -- the status is the outcome's, and its whole text was written
 pub record EndsWhole (outcome : Outcome) (old : Option (List ℕ)) (answer : Status) (new : Option (List ℕ)) : Type 0 where
@@ -23,12 +22,12 @@ EndsAs outcome status.Memory old new = new ≡ old
 EndsAs outcome status.WriteFault old new = GrewPart old outcome.text new
 EndsAs outcome answer old new = EndsWhole outcome old answer new
 
--- against the outcome of words and files: where there is none, a file was read in vain, or memory
--- was wanted
-abbrev pub Answers : Option Outcome → Status → Option (List ℕ) → Option (List ℕ) → Type 0
-Answers o status.ReadFault old new = new ≡ old
-Answers o status.Memory old new = new ≡ old
-Answers o answer old new = (outcome : Outcome) × (o ≡ Some outcome) × EndsAs outcome answer old new
+-- against the outcomes that are meant: after a fault in reading and after want of memory the sink is
+-- as it was, and any other answer is that of one of them
+abbrev pub Answers : (Outcome → Type 0) → Status → Option (List ℕ) → Option (List ℕ) → Type 0
+Answers Meant status.ReadFault old new = new ≡ old
+Answers Meant status.Memory old new = new ≡ old
+Answers Meant answer old new = (outcome : Outcome) × Meant outcome × EndsAs outcome answer old new
 
 -- after a fault in reading and after want of memory nothing was written
 abbrev pub WritesNothing : Status → Option (List ℕ) → Option (List ℕ) → Type 0
@@ -36,14 +35,14 @@ WritesNothing status.ReadFault old new = new ≡ old
 WritesNothing status.Memory old new = new ≡ old
 WritesNothing answer old new = Unit {0}
 
--- the judging gives a model
-abbrev pub Judges : Result SlideModel ModelFault → Type 0
-Judges judged = (model : SlideModel) × (judged ≡ Ok model)
+-- bytes are judged to be a model
+abbrev pub AreModel : List ℕ → Type 0
+AreModel bytes = (model : Model) × (judged_bytes bytes ≡ Ok (accepted_of model))
 
 -- the model's file is held, and its model accepted
 abbrev pub AcceptsModel : List (List ℕ) → (List ℕ → Option (List ℕ)) → Type 0
 AcceptsModel words held =
-    (file : List ℕ) × (held (model_of words) ≡ Some file) × Judges (model_verdict (take model_cap file))
+    (file : List ℕ) × (held (model_of words) ≡ Some file) × AreModel (take model_cap file)
 
 -- a tape's name was given, and the cabinet's count under it rose
 abbrev pub TapeRose : Option (List ℕ) → (List ℕ → ℕ) → (List ℕ → ℕ) → Type 0
@@ -56,6 +55,10 @@ abbrev pub ReadRose :
 ReadRose words tells held reads reads' =
     Rose (reads (model_of words)) (reads' (model_of words)) ⊎ (TapeRose (tape_of words) reads reads' × (IsTrue tells → AcceptsModel words held))
 
+-- an answer that is an outcome's
+abbrev pub IsMeant : (Outcome → Type 0) → Status → Type 0
+IsMeant Meant answer = (outcome : Outcome) × Meant outcome × (answer ≡ outcome.status)
+
 -- the cause of each answer: the place that is bad; accepted words for all that comes after judging
 -- them; and for a fault a count that rose
 module _ (words : List (List ℕ)) (tells : Bool) (held : List ℕ → Option (List ℕ)) where
@@ -67,9 +70,9 @@ module _ (words : List (List ℕ)) (tells : Bool) (held : List ℕ → Option (L
   HasCause answer reads reads' writes writes' = bad_place words ≡ None
 
   -- where no count rose, the answer is the outcome's, or memory was wanted
-  abbrev pub Completes : Outcome → Status → (List ℕ → ℕ) → (List ℕ → ℕ) → ℕ → ℕ → Type 0
-  Completes outcome answer reads reads' writes writes' =
-      ¬ ReadRose words tells held reads reads' → ¬ Rose writes writes' → (answer ≡ status.Memory) ⊎ (answer ≡ outcome.status)
+  abbrev pub Completes : Status → (List ℕ → ℕ) → (List ℕ → ℕ) → ℕ → ℕ → Type 0
+  Completes answer reads reads' writes writes' =
+      ¬ ReadRose words tells held reads reads' → ¬ Rose writes writes' → (answer ≡ status.Memory) ⊎ IsMeant (IsOutcome words held) answer
 
 -- the cause of an answer once a model is accepted, with the tape's name where one is given
 abbrev pub HasTapeCause : Option (List ℕ) → Status → (List ℕ → ℕ) → (List ℕ → ℕ) → ℕ → ℕ → Type 0

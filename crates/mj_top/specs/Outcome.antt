@@ -1,19 +1,20 @@
 -- What a command answers and writes, for its words and for the bytes held under each name.
-use Rattle.std.specs.Prelude.{ℕ, ℤ, List, length, take, Option, Some, None, option_map, option_and_then, Result, Ok, Err}
-use Rattle.mj_slide.specs.declared.slide.SlideModel.{SlideModel}
+use Rattle.std.specs.Prelude.{◌≡◌, ℕ, List, [], length, take, cond, Option, Some, None, option_map, Result, Ok, Err}
+use Rattle.mj_types.specs.declared.model.Model.{Model}
 use Rattle.mj_types.specs.declared.range.End.{End}
 use Rattle.mj_types.specs.declared.range.End.TheVariants as finish
+use Rattle.mj_types.specs.declared.status.ModelCode.TheVariants as code
 use Rattle.mj_types.specs.declared.status.ModelFault.{ModelFault}
 use Rattle.mj_types.specs.declared.status.Status.{Status}
 use Rattle.mj_types.specs.declared.status.Status.TheVariants as status
 use Rattle.mj_types.specs.declared.tape.TapeFault.{TapeFault}
+use Rattle.mj_step.specs.Smooth.{is_smooth}
 use Rattle.mj_tape.specs.Judging.{TapeValues, tape_verdict}
-use Rattle.mj_top.specs.Controls.{tape_control}
+use Rattle.mj_trace.specs.Refusal.{words_refusal, model_refusal, tape_refusal}
+use Rattle.mj_valid.specs.Judging.{told, judged_bytes}
+use Rattle.mj_top.specs.Controls.{controls_at}
 use Rattle.mj_top.specs.Words.{bad_place, model_of, step_count, tape_of}
-use Rattle.mj_top.specs.Model.{model_verdict}
-use Rattle.mj_top.specs.Run.{run}
-use Rattle.mj_top.specs.Trace.{trace_text}
-use Rattle.mj_top.specs.Refusal.{words_refusal, model_refusal, tape_refusal}
+use Rattle.mj_top.specs.Run.{end_of, trace_text}
 
 -- an answer and a text
 pub record Outcome : Type 0 where
@@ -37,15 +38,17 @@ abbrev pub status_of : End → Status
 status_of finish.Done = status.Done
 status_of (finish.OutOfRange step kind index) = status.OutOfRange step kind index
 
--- the model runs for n steps under these controls
-abbrev pub ran : ℕ → SlideModel → (ℕ → ℕ → ℤ) → Outcome
-ran n model controls =
-    record { status = status_of (run model controls n).finish; text = trace_text n (run model controls n) }
+-- the model runs for n steps with this tape, or without one
+abbrev pub ran : ℕ → Model → Option TapeValues → Outcome
+ran n m tape = record {
+  status = status_of (end_of m (controls_at (length m.motors) tape) n);
+  text = trace_text m (controls_at (length m.motors) tape) n;
+}
 
 -- the tape is refused, or the model runs with it
-abbrev pub with_tape : ℕ → SlideModel → Result TapeValues TapeFault → Outcome
-with_tape n model (Ok tape) = ran n model (tape_control (Some tape))
-with_tape n model (Err fault) = tape_refused fault
+abbrev pub with_tape : ℕ → Model → Result TapeValues TapeFault → Outcome
+with_tape n m (Ok tape) = ran n m (Some tape)
+with_tape n m (Err fault) = tape_refused fault
 
 -- how many values the tapes of a command may hold together
 abbrev pub tape_room : ℕ
@@ -59,30 +62,39 @@ abbrev pub tape_cap : ℕ
 tape_cap = 67108865
 
 -- what is read of a tape's file
-abbrev pub with_tape_file : ℕ → SlideModel → List ℕ → Outcome
-with_tape_file n model held =
-    with_tape n model (tape_verdict (length model.motors) n tape_room (take tape_cap held))
+abbrev pub with_tape_file : ℕ → Model → List ℕ → Outcome
+with_tape_file n m held = with_tape n m (tape_verdict (length m.motors) n tape_room (take tape_cap held))
+
+-- a model that may have constraint rows isn't run yet
+abbrev pub not_built : ModelFault
+not_built = record { code = code.NotBuilt; path = [] }
 
 module _ (held : List ℕ → Option (List ℕ)) where
   -- no tape is named, or its file is read; none where nothing is held under that name
-  abbrev pub with_tape_name : ℕ → SlideModel → Option (List ℕ) → Option Outcome
-  with_tape_name n model None = Some (ran n model (tape_control None))
-  with_tape_name n model (Some name) = option_map (with_tape_file n model) (held name)
+  abbrev pub with_tape_name : ℕ → Model → Option (List ℕ) → Option Outcome
+  with_tape_name n m None = Some (ran n m None)
+  with_tape_name n m (Some name) = option_map (with_tape_file n m) (held name)
 
-  -- the model is refused, or runs, with the tape where one is named
-  abbrev pub with_model : ℕ → Option (List ℕ) → Result SlideModel ModelFault → Option Outcome
-  with_model n tape (Ok model) = with_tape_name n model tape
+  -- an accepted model runs, with the tape where one is named
+  abbrev pub with_accepted : ℕ → Option (List ℕ) → Model → Option Outcome
+  with_accepted n tape m = cond (is_smooth m) (with_tape_name n m tape) (Some (model_refused not_built))
+
+  -- the model is refused, or accepted
+  abbrev pub with_model : ℕ → Option (List ℕ) → Result Model ModelFault → Option Outcome
+  with_model n tape (Ok m) = with_accepted n tape m
   with_model n tape (Err fault) = Some (model_refused fault)
 
-  abbrev pub with_file : ℕ → Option (List ℕ) → List ℕ → Option Outcome
-  with_file n tape file = with_model n tape (model_verdict (take model_cap file))
+  -- the outcome of a model's file: of what its bytes are judged to be
+  abbrev pub IsFileOutcome : ℕ → Option (List ℕ) → List ℕ → Outcome → Type 0
+  IsFileOutcome n tape bytes outcome =
+      (judged : Result Model ModelFault) × (told judged ≡ judged_bytes bytes) × (with_model n tape judged ≡ Some outcome)
 
-  -- the words are refused, or the file that they name is read; none where nothing is held under
-  -- that name
-  abbrev pub with_words : List (List ℕ) → Option ℕ → Option Outcome
-  with_words words (Some at) = Some (words_refused at)
-  with_words words None =
-      option_and_then (with_file (step_count words) (tape_of words)) (held (model_of words))
+  -- the words are refused, or the file that they name is read
+  abbrev pub IsWordsOutcome : List (List ℕ) → Option ℕ → Outcome → Type 0
+  IsWordsOutcome words (Some at) outcome = outcome ≡ words_refused at
+  IsWordsOutcome words None outcome =
+      (file : List ℕ) × (held (model_of words) ≡ Some file) × IsFileOutcome (step_count words) (tape_of words) (take model_cap file) outcome
 
-abbrev pub outcome : List (List ℕ) → (List ℕ → Option (List ℕ)) → Option Outcome
-outcome words held = with_words held words (bad_place words)
+-- the outcome of a command's words and files
+abbrev pub IsOutcome : List (List ℕ) → (List ℕ → Option (List ℕ)) → Outcome → Type 0
+IsOutcome words held outcome = IsWordsOutcome held words (bad_place words) outcome

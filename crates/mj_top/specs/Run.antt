@@ -1,44 +1,37 @@
--- A run: the steps that were done, and how it ended.
-use Rattle.std.specs.Prelude.{ℕ, zero, suc, ◌+◌, ℤ, List, [], ◌∷◌, ◌++◌, Option, option_map}
+-- A run: its steps one after another, until one has a number out of range.
+use Rattle.std.specs.Prelude.{◌≡◌, ℕ, zero, suc, ◌+◌, ◌*◌, ◌^◌, ◌<◌, ◌≤◌, ℤ, pos, ◌-ℤ◌, ◌*ℤ◌, true, unsigned_abs, List, ◌++◌, Option, None, option_map}
 use Rattle.std.specs.Option.{unwrap_or}
 use Rattle.fx_whole.specs.First.{first_to}
-use Rattle.mj_slide.specs.declared.slide.SlideModel.{SlideModel}
+use Rattle.fx_whole.specs.Joined.{joined}
+use Rattle.mj_types.specs.declared.model.Model.{Model}
 use Rattle.mj_types.specs.declared.range.OutOfRange.{OutOfRange}
 use Rattle.mj_types.specs.declared.range.End.{End}
 use Rattle.mj_types.specs.declared.range.End.TheVariants as finish
-use Rattle.mj_top.specs.declared.step.State.{State}
-use Rattle.mj_top.specs.declared.step.Motion.{Motion}
-use Rattle.mj_top.specs.declared.trace.Block.{Block}
-use Rattle.mj_top.specs.Step.{start, applied, made, first_out}
+use Rattle.mj_types.specs.declared.state.State.{State}
+use Rattle.mj_types.specs.Control.{Control}
+use Rattle.mj_types.specs.StepValues.{StepValues}
+use Rattle.mj_step.specs.Steps.{step_state, step_values, step_fault}
+use Rattle.mj_trace.specs.Block.{block_text}
+use Rattle.mj_trace.specs.Trace.{header_text, end_text}
 
--- what a run did, and its end
-pub record Run : Type 0 where
-  pub blocks : List Block
-  pub finish : End
+-- where a run starts
+abbrev pub start : Model → State
+start m = record { q = m.qpos0; v = m.qvel0 }
 
--- a model, and the control of each motor in each step, both counted from 0
-module _ (model : SlideModel) (controls : ℕ → ℕ → ℤ) where
-  -- what step k makes of a state
-  abbrev pub step_from : ℕ → State → Motion
-  step_from k state = made model (applied model (controls k)) state
-
+-- a model, and the controls of the step after k others
+module _ (m : Model) (controls : ℕ → List Control) where
   -- the state after k steps
   unfoldable pub state_at : ℕ → State
-  state_at zero = start
-  state_at (suc k) = (step_from k (state_at k)).after
+  state_at zero = start m
+  state_at (suc k) = step_state m (state_at k) (controls k)
 
-  -- what is told of step k, which counts from 1
-  abbrev pub block_at : ℕ → Block
-  block_at k = record { step = k + 1; made = step_from k (state_at k) }
+  -- what the step after k others tells
+  abbrev pub told_at : ℕ → StepValues
+  told_at k = step_values m (state_at k) (controls k)
 
-  -- the first k blocks
-  unfoldable pub blocks_to : ℕ → List Block
-  blocks_to zero = []
-  blocks_to (suc k) = blocks_to k ++ block_at k ∷ []
-
-  -- the first number out of range in step k
+  -- its first number out of range
   abbrev pub refusal_at : ℕ → Option OutOfRange
-  refusal_at k = first_out model (applied model (controls k)) (state_at k)
+  refusal_at k = step_fault m (state_at k) (controls k)
 
   -- how many of n steps are done before one is refused
   abbrev pub done_of : ℕ → ℕ
@@ -49,6 +42,15 @@ module _ (model : SlideModel) (controls : ℕ → ℕ → ℤ) where
   end_of n =
       unwrap_or (first_to n (λ k. option_map (λ out. finish.OutOfRange (k + 1) out.kind out.index) (refusal_at k))) finish.Done
 
-  -- the run of n steps
-  abbrev pub run : ℕ → Run
-  run n = record { blocks = blocks_to (done_of n); finish = end_of n }
+  -- ---- the trace: the header, a block for each step that is done, and the end
+  abbrev pub block_at : ℕ → List ℕ
+  block_at k = block_text m.format m.nq m.nv (k + 1) (told_at k) None
+
+  abbrev pub blocks_text : ℕ → List ℕ
+  blocks_text k = joined k block_at
+
+  abbrev pub done_blocks : ℕ → List ℕ
+  done_blocks n = blocks_text (done_of n)
+
+  abbrev pub trace_text : ℕ → List ℕ
+  trace_text n = (header_text m.format m.nq m.nv n ++ done_blocks n) ++ end_text (end_of n)

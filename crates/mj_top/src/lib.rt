@@ -1,15 +1,10 @@
 //! The top call.
 #![tactic(auto)]
 
-mod forces;
-mod model;
-mod refusal;
 mod run;
-mod step;
 #[cfg(test)]
 mod tests;
 pub mod top;
-mod trace;
 mod words;
 
 pub use top::run_words;

@@ -1,6 +1,9 @@
 // Runs through the top call, with their exact bytes.
 ghost use Rattle.std.specs.Prelude.{◌≤◌};
 
+mod models;
+mod ranges;
+mod runs;
 mod tape;
 
 use crate::run_words;
@@ -11,12 +14,6 @@ use std::thread::Threads;
 
 const SLIDE: &str =
     "[option]\ntimestep = \"0.25\"\ngravity = [0, 0, -8]\n[[body]]\nname = \"a\"\ninertial = { mass = 1 }\n[[body.joint]]\nname = \"z\"\ntype = \"slide\"\n";
-
-const HEAVY: &str =
-    "[option]\ntimestep = \"0.25\"\ngravity = [0, 0, -8]\n[[body]]\nname = \"a\"\ninertial = { mass = 129 }\n[[body.joint]]\nname = \"z\"\ntype = \"slide\"\n";
-
-const FAST: &str =
-    "[option]\ntimestep = \"0.25\"\ngravity = [0, 0, -1024]\n[[body]]\nname = \"a\"\ninertial = { mass = 1 }\n[[body.joint]]\nname = \"z\"\ntype = \"slide\"\n";
 
 const TRACE: &str =
     "trace 1 nq=1 nv=1 steps=3\nstep 1\nq -2147483648\nv -8589934592\na -34359738368\nresidual 0\nradius 0 0\nrows 0 idle 0\nstop none\ncost 0 0\nstep 2\nq -6442450944\nv -17179869184\na -34359738368\nresidual 0\nradius 0 0\nrows 0 idle 0\nstop none\ncost 0 0\nstep 3\nq -12884901888\nv -25769803776\na -34359738368\nresidual 0\nradius 0 0\nrows 0 idle 0\nstop none\ncost 0 0\nend done\n";
@@ -86,6 +83,25 @@ fn sink_of(alloc: Global, fails: &[u64], most: usize) -> Result<MemSink, Fail>
     Ok(MemSink::new(alloc, 1 << 20, Vec::from_slice(alloc, fails)?, most)?)
 }
 
+// A text with one of its parts, at its first place, made another.
+fn swapped(alloc: Global, text: &str, old: &str, new: &str) -> Result<String, Fail> {
+    let (before, after) = text.split_once(old).ok_or("a part of the text")?;
+    Ok(format!(in alloc; "{before}{new}{after}")?)
+}
+
+// Whether a command answers and writes this.
+fn is_told<R: Threads + Sync>(
+    rt: &R,
+    alloc: Global,
+    model: &str,
+    texts: &[&str],
+    code: u8,
+    text: &str,
+) -> Result<bool, Fail> {
+    let told = tell(rt, alloc, model.as_bytes(), texts)?;
+    Ok(told.code == code && told.text.as_slice() == text.as_bytes())
+}
+
 // A model's file, and words that run it for some steps.
 const RUN_3: [&str; 5] = ["run", "--model", "m", "--steps", "3"];
 
@@ -140,45 +156,9 @@ fn a_sink_with_too_little_room_tells_nothing(rt: HostRuntime) -> Result<(), Fail
     Ok(())
 }
 
-#[test]
-fn a_fast_body_leaves_its_range(rt: HostRuntime) -> Result<(), Fail> {
-    let told = tell(
-        &rt,
-        rt.alloc(),
-        FAST.as_bytes(),
-        &["run", "--model", "m", "--steps", "20"],
-    )?;
-    let text = told.text.as_slice();
-    assert_eq!(rt; told.code, 3);
-    assert!(rt; contains(text, b"step 10\nq -15118284881920\n"));
-    assert!(rt; !contains(text, b"step 11"));
-    assert!(rt;
-        contains(
-            text,
-            b"cost 0 0\nend out-of-range step=11 kind=Position index=1\n"
-        )
-    );
-    Ok(())
-}
-
 // Whether the part stands in the text.
 fn contains(text: &[u8], part: &[u8]) -> bool {
     text.windows(part.len().max(1)).any(|window| window == part)
-}
-
-#[test]
-fn models_are_refused(rt: HostRuntime) -> Result<(), Fail> {
-    let feeds = vec![in rt.alloc(); 10u8; 1_048_577]?;
-    for (file, line) in [
-        (HEAVY.as_bytes(), b"refused model NotBuilt\n".as_slice()),
-        (b"[", b"refused model NotToml\n"),
-        (feeds.as_slice(), b"refused model TooLarge\n"),
-    ] {
-        let told = tell(&rt, rt.alloc(), file, &RUN_3)?;
-        assert_eq!(rt; told.code, 4);
-        assert_eq!(rt; told.text.as_slice(), line);
-    }
-    Ok(())
 }
 
 #[test]
@@ -253,26 +233,18 @@ fn a_write_that_fails_leaves_a_prefix(rt: HostRuntime) -> Result<(), Fail> {
     Ok(())
 }
 
-// The writes of a run of three steps, where the system takes each piece whole: the header, a block for
-// each step, and the end. So the fifth is the last.
+// A body that rests takes some 78 bytes a step, and a page holds 65,536: a thousand steps take two writes.
 #[test]
-fn a_run_takes_one_write_a_step(rt: HostRuntime) -> Result<(), Fail> {
+fn steps_share_a_write(rt: HostRuntime) -> Result<(), Fail> {
     let alloc = rt.alloc();
-    let words = words_of(alloc, &RUN_3)?;
-    for (fail, code, last) in [
-        (1u64, 7, b"".as_slice()),
-        (2, 7, b"steps=3\n"),
-        (3, 7, b"step 1\nq -2147483648\n"),
-        (4, 7, b"step 2\nq -6442450944\n"),
-        (5, 7, b"step 3\nq -12884901888\n"),
-        (6, 0, b"cost 0 0\nend done\n"),
-    ] {
-        let mut cabinet = cabinet_of(alloc, SLIDE.as_bytes(), b"", &[])?;
+    let rest = swapped(alloc, SLIDE, "gravity = [0, 0, -8]", "gravity = [0, 0, 0]")?;
+    let words = words_of(alloc, &["run", "--model", "m", "--steps", "1000"])?;
+    for (fail, code) in [(1u64, 7), (2, 7), (3, 0)] {
+        let mut cabinet = cabinet_of(alloc, rest.as_str().as_bytes(), b"", &[])?;
         let mut sink = sink_of(alloc, &[fail], 1_000_000)?;
         let status = run_words(&rt, alloc, words.as_slice(), &mut cabinet, &mut sink);
         assert_eq!(rt; status.code(), code);
-        assert!(rt; last.is_empty() || contains(sink.held(), last));
-        assert_eq!(rt; TRACE.as_bytes().starts_with(sink.held()), true);
+        assert_eq!(rt; sink.held().is_empty(), fail == 1);
         assert_eq!(rt; sink.held().ends_with(b"end done\n"), code == 0);
     }
     Ok(())

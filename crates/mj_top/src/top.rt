@@ -1,22 +1,28 @@
 // The top call: what a command does, from its words to its answer.
-ghost use Rattle.std.specs.Prelude.{◌≡◌, IsTrue, None, Some, length, map, string_bytes};
+ghost use Rattle.std.specs.Prelude.{◌≡◌, ℕ, IsTrue, None, Some, List, length, map, string_bytes};
 ghost use Rattle.std.specs.Option.{ForSome};
+ghost use Rattle.mj_step.specs.Covered.{IsCovered};
+ghost use Rattle.mj_step.specs.Smooth.{is_smooth};
+ghost use Rattle.mj_step.specs.Workspace.{MadeFor};
 ghost use Rattle.mj_tape.specs.Judging.{tape_verdict};
-ghost use Rattle.mj_top.specs.Controls.{tape_control, tape_values, Serves};
-ghost use Rattle.mj_top.specs.Lawful.{IsLawful};
+ghost use Rattle.mj_types.specs.States.{Fits};
+ghost use Rattle.mj_types.specs.Control.{Control};
+ghost use Rattle.mj_types.specs.declared.model.Model.{Model};
+ghost use Rattle.mj_top.specs.Controls.{tape_of as taped, Serves};
 ghost use Rattle.mj_top.specs.Words as command;
-ghost use Rattle.mj_top.specs.Model.{model_verdict};
+ghost use Rattle.mj_top.specs.Run.{start, state_at};
 ghost use Rattle.mj_top.specs.Outcome as spec;
-ghost use Rattle.mj_top.specs.Ends.{Answers, WritesNothing, HasCause, Completes, HasTapeCause, Judges, Ends, EndsOrMemory, unless_failed};
+ghost use Rattle.mj_top.specs.Ends.{Answers, WritesNothing, HasCause, Completes, HasTapeCause, AreModel, IsMeant, Ends, EndsOrMemory, unless_failed};
 
-use crate::model::read_model;
-use crate::refusal::{send_model_refusal, send_tape_refusal, send_words_refusal};
-use crate::run::send_run;
+use crate::run::{Controls, Runner, send_run};
 use crate::words::{bad_place, model_of, step_count, tape_of};
-use mj_io::{Cabinet, CabinetFault, Failed, Page, Sink, finish};
-use mj_slide::SlideModel;
+use fx_list::Text;
+use mj_io::{Cabinet, CabinetFault, Failed, NoMemory, Page, Sink, finish};
+use mj_step::{is_smooth, steps_are_covered};
 use mj_tape::tape;
-use mj_types::{End, ModelCode, ModelFault, Status, Tape, TapeFault};
+use mj_trace::{send_model_refusal, send_tape_refusal, send_words_refusal};
+use mj_types::{End, Model, ModelCode, ModelFault, Status, TapeFault};
+use mj_valid::judge;
 use std::alloc::Global;
 use std::thread::Threads;
 
@@ -79,15 +85,34 @@ fn refuse_tape<S: Sink>(sink: &mut S, fault: TapeFault) -> Status
     answered(written, Status::BadTape { tape: 1, fault })
 }
 
-// A run of an accepted model.
-fn run_model<S: Sink>(sink: &mut S, model: &SlideModel, tape: &Option<Tape>, steps: u32) -> Status
-    requires lawful { IsLawful model.now }
-    requires serves { Serves tape.now (length model.now.motors) steps }
-    ensures { Ends S.holds S.faults
-        (spec.ran steps model.now (tape_control (tape_values tape.now))) sink.old result sink.new }
+// The refusal of a model that may have constraint rows.
+fn not_built(alloc: Global) -> ModelFault
+    ensures { result ≡ spec.not_built }
+{
+    ModelFault {
+        code: ModelCode::NotBuilt,
+        path: Text::from_vec(Vec::new(alloc)),
+    }
+}
+
+// A run in the room that was made for it.
+fn run_on<S: Sink>(
+    sink: &mut S,
+    model: &Model,
+    runner: &mut Runner,
+    controls: &Controls,
+    steps: u32,
+) -> Status
+    requires smooth { IsTrue (is_smooth model.now) }
+    requires made { MadeFor model.now runner.old.work }
+    requires fits { Fits model.now runner.old.state }
+    requires start { runner.old.state ≡ start model.now }
+    requires serves { Serves controls.now (length model.now.motors) steps }
+    ensures { Ends S.holds S.faults (spec.ran steps model.now (taped controls.now))
+        sink.old result sink.new }
 {
     let mut page = Page::new();
-    match send_run(sink, &mut page, model, tape, steps) {
+    match send_run(sink, &mut page, model, runner, controls, steps) {
         Ok(end) => {
             let written = finish(sink, &mut page);
             answered(written, status_of(end))
@@ -96,22 +121,58 @@ fn run_model<S: Sink>(sink: &mut S, model: &SlideModel, tape: &Option<Tape>, ste
     }
 }
 
+// A run of an accepted model.
+fn run_model<S: Sink>(
+    alloc: Global,
+    sink: &mut S,
+    model: &Model,
+    controls: &Controls,
+    steps: u32,
+) -> Status
+    requires smooth { IsTrue (is_smooth model.now) }
+    requires serves { Serves controls.now (length model.now.motors) steps }
+    ensures { EndsOrMemory S.holds S.faults (spec.ran steps model.now (taped controls.now))
+        sink.old result sink.new }
+{
+    match Runner::new(alloc, model) {
+        Ok(runner) => {
+            let mut runner = runner;
+            let status = run_on(sink, model, &mut runner, controls, steps);
+            drop(runner);
+            status
+        }
+        Err(NoMemory) => Status::Memory,
+    }
+}
+
+// A run without a tape.
+fn run_at_rest<S: Sink>(alloc: Global, sink: &mut S, model: &Model, steps: u32) -> Status
+    requires { IsTrue (is_smooth model.now) }
+    ensures { EndsOrMemory S.holds S.faults (spec.ran steps model.now None)
+        sink.old result sink.new }
+{
+    match Controls::rest(alloc, model) {
+        Ok(controls) => run_model(alloc, sink, model, &controls, steps),
+        Err(NoMemory) => Status::Memory,
+    }
+}
+
 // A tape's file that was read.
 fn run_tape_file<S: Sink>(
     alloc: Global,
     sink: &mut S,
-    model: &SlideModel,
+    model: &Model,
     bytes: &[u8],
     steps: u32,
 ) -> Status
-    requires { IsLawful model.now }
+    requires { IsTrue (is_smooth model.now) }
     ensures { EndsOrMemory S.holds S.faults
         (spec.with_tape steps model.now
         (tape_verdict
         (length model.now.motors) steps spec.tape_room bytes.now)) sink.old result sink.new }
 {
     match tape(alloc, model, bytes, steps, TAPE_ROOM) {
-        Ok(tape) => run_model(sink, model, &Some(tape), steps),
+        Ok(tape) => run_model(alloc, sink, model, &Controls::Taped(tape), steps),
         Err(fault) => match fault {
             TapeFault::Memory => Status::Memory,
             _ => refuse_tape(sink, fault),
@@ -119,31 +180,55 @@ fn run_tape_file<S: Sink>(
     }
 }
 
-// An accepted model, with the tape where one is named.
+// A model that runs, with the tape where one is named.
 fn run_with_tape<C: Cabinet, S: Sink>(
     alloc: Global,
     words: &[String],
-    model: &SlideModel,
+    model: &Model,
     cabinet: &mut C,
     sink: &mut S,
 ) -> Status
-    requires { IsLawful model.now }
+    requires { IsTrue (is_smooth model.now) }
     ensures outcome { IsTrue (C.tells cabinet.old) →
-        Answers (spec.with_tape_name (C.holds cabinet.old)
+        Answers (λ o. spec.with_tape_name (C.holds cabinet.old)
         (command.step_count (map string_bytes words.now)) model.now
-        (command.tape_of (map string_bytes words.now))) result (S.holds sink.old)
+        (command.tape_of (map string_bytes words.now)) ≡ Some o) result (S.holds sink.old)
         (S.holds sink.new) }
     ensures nothing { WritesNothing result (S.holds sink.old) (S.holds sink.new) }
     ensures cause { HasTapeCause (command.tape_of (map string_bytes words.now)) result
         (C.faults cabinet.old) (C.faults cabinet.new) (S.faults sink.old) (S.faults sink.new) }
 {
     match tape_of(words) {
-        None => run_model(sink, model, &None, step_count(words)),
+        None => run_at_rest(alloc, sink, model, step_count(words)),
         Some(name) => match cabinet.read(alloc, name, TAPE_CAP) {
             Ok(bytes) => run_tape_file(alloc, sink, model, bytes.as_slice(), step_count(words)),
             Err(CabinetFault::Failed) => Status::ReadFault,
             Err(CabinetFault::Memory) => Status::Memory,
         },
+    }
+}
+
+// An accepted model.
+fn run_accepted_model<C: Cabinet, S: Sink>(
+    alloc: Global,
+    words: &[String],
+    model: &Model,
+    cabinet: &mut C,
+    sink: &mut S,
+) -> Status
+    ensures outcome { IsTrue (C.tells cabinet.old) →
+        Answers (λ o. spec.with_accepted (C.holds cabinet.old)
+        (command.step_count (map string_bytes words.now))
+        (command.tape_of (map string_bytes words.now)) model.now ≡ Some o) result
+        (S.holds sink.old) (S.holds sink.new) }
+    ensures nothing { WritesNothing result (S.holds sink.old) (S.holds sink.new) }
+    ensures cause { HasTapeCause (command.tape_of (map string_bytes words.now)) result
+        (C.faults cabinet.old) (C.faults cabinet.new) (S.faults sink.old) (S.faults sink.new) }
+{
+    if is_smooth(model) {
+        run_with_tape(alloc, words, model, cabinet, sink)
+    } else {
+        refuse_model(sink, not_built(alloc))
     }
 }
 
@@ -156,17 +241,21 @@ fn run_model_file<C: Cabinet, S: Sink>(
     sink: &mut S,
 ) -> Status
     ensures outcome { IsTrue (C.tells cabinet.old) →
-        Answers (spec.with_model (C.holds cabinet.old)
+        Answers (spec.IsFileOutcome (C.holds cabinet.old)
         (command.step_count (map string_bytes words.now))
-        (command.tape_of (map string_bytes words.now)) (model_verdict bytes.now)) result
+        (command.tape_of (map string_bytes words.now)) bytes.now) result
         (S.holds sink.old) (S.holds sink.new) }
     ensures nothing { WritesNothing result (S.holds sink.old) (S.holds sink.new) }
     ensures cause { HasTapeCause (command.tape_of (map string_bytes words.now)) result
         (C.faults cabinet.old) (C.faults cabinet.new) (S.faults sink.old) (S.faults sink.new) }
-    ensures accepted { result ≡ Status.ReadFault → Judges (model_verdict bytes.now) }
+    ensures accepted { result ≡ Status.ReadFault → AreModel bytes.now }
 {
-    match read_model(alloc, bytes) {
-        Ok(model) => run_with_tape(alloc, words, &model, cabinet, sink),
+    match judge(alloc, bytes) {
+        Ok(model) => {
+            let status = run_accepted_model(alloc, words, &model, cabinet, sink);
+            drop(model);
+            status
+        }
         Err(fault) => match fault.code {
             ModelCode::Memory => Status::Memory,
             _ => refuse_model(sink, fault),
@@ -183,7 +272,7 @@ fn run_accepted<C: Cabinet, S: Sink>(
 ) -> Status
     requires { command.bad_place (map string_bytes words.now) ≡ None }
     ensures outcome { IsTrue (C.tells cabinet.old) →
-        Answers (spec.outcome (map string_bytes words.now) (C.holds cabinet.old)) result
+        Answers (spec.IsOutcome (map string_bytes words.now) (C.holds cabinet.old)) result
         (S.holds sink.old) (S.holds sink.new) }
     ensures nothing { WritesNothing result (S.holds sink.old) (S.holds sink.new) }
     ensures cause { HasCause (map string_bytes words.now) (C.tells cabinet.old)
@@ -204,7 +293,9 @@ fn run_accepted<C: Cabinet, S: Sink>(
 /// these words and files, but for `ReadFault`, `WriteFault` and `Memory`. `nothing`: after `ReadFault`
 /// and `Memory` nothing was written. `refused`: refused words have their outcome whatever the cabinet
 /// tells. `cause`: when each answer may come. `complete`: where no count rose, the answer is the
-/// outcome's, or `Memory`.
+/// outcome's, or `Memory`. `covered`: in every step of every run the printed radii cover what rounding
+/// did to the mass matrix and to the bias forces, and the printed residual is the largest error of the
+/// equation of motion.
 pub fn run_words<R: Threads + Sync, C: Cabinet, S: Sink>(
     _rt: &R,
     alloc: Global,
@@ -213,21 +304,23 @@ pub fn run_words<R: Threads + Sync, C: Cabinet, S: Sink>(
     sink: &mut S,
 ) -> Status
     ensures outcome { IsTrue (C.tells cabinet.old) →
-        Answers (spec.outcome (map string_bytes words.now) (C.holds cabinet.old)) result
+        Answers (spec.IsOutcome (map string_bytes words.now) (C.holds cabinet.old)) result
         (S.holds sink.old) (S.holds sink.new) }
     ensures nothing { WritesNothing result (S.holds sink.old) (S.holds sink.new) }
     ensures refused { ForSome (command.bad_place (map string_bytes words.now))
-        (λ at. Answers (Some (spec.words_refused at)) result (S.holds sink.old)
+        (λ at. Answers (λ o. o ≡ spec.words_refused at) result (S.holds sink.old)
         (S.holds sink.new)) }
     ensures cause { HasCause (map string_bytes words.now) (C.tells cabinet.old)
         (C.holds cabinet.old) result (C.faults cabinet.old) (C.faults cabinet.new)
         (S.faults sink.old) (S.faults sink.new) }
     ensures complete { IsTrue (C.tells cabinet.old) →
-        ForSome (spec.outcome (map string_bytes words.now) (C.holds cabinet.old))
-        (λ x. Completes (map string_bytes words.now) (C.tells cabinet.old)
-        (C.holds cabinet.old) x result (C.faults cabinet.old) (C.faults cabinet.new)
-        (S.faults sink.old) (S.faults sink.new)) }
+        Completes (map string_bytes words.now) (C.tells cabinet.old)
+        (C.holds cabinet.old) result (C.faults cabinet.old) (C.faults cabinet.new)
+        (S.faults sink.old) (S.faults sink.new) }
+    ensures covered { (model : Model) (controls : ℕ → List Control) (k : ℕ)
+        → IsCovered model (state_at model controls k) (controls k) }
 {
+    steps_are_covered();
     match bad_place(words) {
         Some(at) => refuse_words(sink, at),
         None => run_accepted(alloc, words, cabinet, sink),

@@ -96,7 +96,8 @@ pub fn send_block<S: Sink>(
     requires forces { HasForces report.now }
     ensures sent { Sent S.holds S.faults sink.old page.old
         (spec.block_text report.now.format (length state.now.q) (length state.now.v) step
-        (values_of state.now report.now) (option_map (λ d. dual_values d.now) dual.entry)) sink.new page.new }
+        (values_of state.now report.now) (option_map (λ d. dual_values d.now) dual.entry))
+        sink.new page.new }
 {
     send_motion(sink, page, step, state, report);
     send_constraints(sink, page, state, report);
@@ -116,7 +117,8 @@ pub fn block<S: Sink>(
     requires forces { HasForces report.now }
     ensures wrote { Wrote S.holds S.faults sink.old
         (spec.block_text report.now.format (length state.now.q) (length state.now.v) step
-        (values_of state.now report.now) (option_map (λ d. dual_values d.now) dual.entry)) result sink.new }
+        (values_of state.now report.now) (option_map (λ d. dual_values d.now) dual.entry))
+        result sink.new }
 {
     let mut page = Page::new();
     send_block(sink, &mut page, step, state, report, dual);

@@ -83,8 +83,10 @@ fn send_places_line<S: Sink>(sink: &mut S, page: &mut Page, label: &[u8], xs: &A
 /// Sends a run's summary: the steps that were done, the end, sums over them, and the last state.
 #[tactic(auto, unfolding(crate::specs::Summaries::summary_text))]
 pub fn send_summary<S: Sink>(sink: &mut S, page: &mut Page, sum: &Summary, state: &State)
-    requires q { (i : ℕ) → i < length state.now.q → unsigned_abs (number_at state.now.q i) ≤ 2 ^ 52 }
-    requires v { (i : ℕ) → i < length state.now.v → unsigned_abs (number_at state.now.v i) ≤ 2 ^ 52 }
+    requires q { (i : ℕ) → i < length state.now.q
+        → unsigned_abs (number_at state.now.q i) ≤ 2 ^ 52 }
+    requires v { (i : ℕ) → i < length state.now.v
+        → unsigned_abs (number_at state.now.v i) ≤ 2 ^ 52 }
     ensures sent { Sent S.holds S.faults sink.old page.old
         (spec.summary_text (length state.now.q) (length state.now.v) sum.now
         (number_at state.now.q) (number_at state.now.v)) sink.new page.new }
@@ -102,8 +104,10 @@ pub fn send_summary<S: Sink>(sink: &mut S, page: &mut Page, sum: &Summary, state
 /// Writes a run's summary, as `send_summary` sends it. After `Failed` a prefix of it was written, and
 /// the sink's count rose.
 pub fn summary<S: Sink>(sink: &mut S, sum: &Summary, state: &State) -> Result<(), Failed>
-    requires q { (i : ℕ) → i < length state.now.q → unsigned_abs (number_at state.now.q i) ≤ 2 ^ 52 }
-    requires v { (i : ℕ) → i < length state.now.v → unsigned_abs (number_at state.now.v i) ≤ 2 ^ 52 }
+    requires q { (i : ℕ) → i < length state.now.q
+        → unsigned_abs (number_at state.now.q i) ≤ 2 ^ 52 }
+    requires v { (i : ℕ) → i < length state.now.v
+        → unsigned_abs (number_at state.now.v i) ≤ 2 ^ 52 }
     ensures wrote { Wrote S.holds S.faults sink.old
         (spec.summary_text (length state.now.q) (length state.now.v) sum.now
         (number_at state.now.q) (number_at state.now.v)) result sink.new }

@@ -269,7 +269,8 @@ v 0.250000000\n"
 
 // Whether each number is at most 2^20 in size.
 fn are_small(xs: &[Fix<32>]) -> bool
-    ensures { IsTrue result → (i : ℕ) → i < length xs.now → unsigned_abs (number_at xs.now i) ≤ 2 ^ 52 }
+    ensures { IsTrue result → (i : ℕ) → i < length xs.now
+        → unsigned_abs (number_at xs.now i) ≤ 2 ^ 52 }
 {
     for i in 0..xs.len() {
         if xs[i].mid.unsigned_abs() > 1 << 52 {

@@ -111,4 +111,4 @@ told (Err fault) = Err fault
 
 -- and of bytes: what they are read as is judged
 abbrev pub judged_bytes : List ℕ → Read Accepted
-judged_bytes bytes = document.judged bytes >>= judged
+judged_bytes bytes = document.raw_model bytes >>= judged

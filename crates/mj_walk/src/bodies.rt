@@ -10,11 +10,8 @@ use crate::names::{body_name, parent_number};
 use fx_list::Array;
 use fx_num::{Fix, Number, Plain};
 use fx_vec::{Q4, V3, Vector3};
-use mj_form::{Refusal, Walker};
-use mj_judge::{
-    judge, judge_diagonal, judge_number, judge_rotation, judge_vector, under_item, under_key,
-    unturned,
-};
+use mj_form::{Refusal, Walker, under_item, under_key};
+use mj_judge::{judge, judge_diagonal, judge_number, judge_rotation, judge_vector, unturned};
 use mj_layout::BodyParts;
 use mj_read::{RawBody, RawGeom, RawInertial, RawJoint};
 use mj_types::{Body, Geom, Joint, ModelFault};

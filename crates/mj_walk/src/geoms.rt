@@ -7,10 +7,10 @@ ghost use Rattle.mj_walk.specs.Tables as spec;
 use crate::names::geom_name;
 use fx_list::Array;
 use fx_num::Number;
-use mj_form::{Refusal, Walker};
+use mj_form::{Refusal, Walker, under_item};
 use mj_judge::{
     Extent, condim, geom_kind_of, judge, judge_friction, judge_number, judge_rotation, judge_soft,
-    judge_vector, judge_whole, size, under_item,
+    judge_vector, judge_whole, size,
 };
 use mj_read::{RawBody, RawGeom};
 use mj_types::{Geom, GeomKind, ModelFault};

@@ -6,10 +6,10 @@ ghost use Rattle.mj_walk.specs.Tables as spec;
 
 use crate::names::joint_name;
 use fx_list::Array;
-use mj_form::{Refusal, Walker};
+use mj_form::{Refusal, Walker, under_item};
 use mj_judge::{
     joint_kind_of, judge, judge_axis, judge_number, judge_range, judge_size, judge_soft,
-    judge_vector, under_item,
+    judge_vector,
 };
 use mj_read::{RawBody, RawJoint};
 use mj_types::{Joint, JointKind, ModelFault};

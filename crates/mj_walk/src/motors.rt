@@ -6,8 +6,8 @@ ghost use Rattle.mj_walk.specs.Tables as spec;
 
 use crate::names::{drive_of, motor_name, optional_scalar};
 use fx_list::Array;
-use mj_form::{Refusal, Walker};
-use mj_judge::{judge, judge_range, judge_size, under_item};
+use mj_form::{Refusal, Walker, under_item};
+use mj_judge::{judge, judge_range, judge_size};
 use mj_read::{RawJoint, RawMotor, RawTendon};
 use mj_types::{Drive, ModelFault, Motor};
 use std::alloc::Global;

@@ -7,8 +7,8 @@ ghost use Rattle.mj_walk.specs.Tables as spec;
 
 use fx_num::{Fix, Plain};
 use fx_vec::V3;
-use mj_form::{Refusal, Walker};
-use mj_judge::{judge_number, judge_text, judge_vector, judge_whole, under_key};
+use mj_form::{Refusal, Walker, under_key};
+use mj_judge::{judge_number, judge_text, judge_vector, judge_whole};
 use mj_read::RawOption;
 use mj_types::ModelFault;
 use std::alloc::Global;

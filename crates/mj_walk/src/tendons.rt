@@ -6,10 +6,8 @@ ghost use Rattle.mj_walk.specs.Tables as spec;
 
 use crate::names::{tendon_name, term_number};
 use fx_list::Array;
-use mj_form::{Refusal, Walker};
-use mj_judge::{
-    judge, judge_number, judge_range, judge_size, judge_soft, judge_whether, under_item,
-};
+use mj_form::{Refusal, Walker, under_item};
+use mj_judge::{judge, judge_number, judge_range, judge_size, judge_soft, judge_whether};
 use mj_read::{RawJoint, RawTendon, RawTerm};
 use mj_types::{ModelCode, ModelFault, Tendon, Term};
 use std::alloc::Global;

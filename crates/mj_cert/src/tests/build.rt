@@ -48,8 +48,10 @@ pub fn no_rows(alloc: Global, rows: usize, nv: usize) -> Result<Dual, AllocError
 /// The sum of squares of a row's numbers, where each is within its limit.
 fn squares(g: &[Fix<24>]) -> Option<Wide<48>>
     requires { length g.now ≤ 64 }
-    ensures small { IfSome result (λ _. (k : ℕ) → k < length g.now → unsigned_abs (number_at g.now k) ≤ 2 ^ 44) }
-    ensures sum { IfSome result (λ d. d.raw ≡ sum_to (length g.now) (λ k. number_at g.now k *ℤ number_at g.now k)) }
+    ensures small { IfSome result (λ _. (k : ℕ) → k < length g.now
+        → unsigned_abs (number_at g.now k) ≤ 2 ^ 44) }
+    ensures sum { IfSome result (λ d. d.raw
+        ≡ sum_to (length g.now) (λ k. number_at g.now k *ℤ number_at g.now k)) }
 {
     let mut sum = Wide { raw: 0 };
     for k in 0..g.len() {
@@ -143,7 +145,8 @@ pub fn add_row(dual: &mut Dual, g: &[Fix<24>], row: &DualRow) -> bool {
 
 /// Whether each force is within its limit.
 fn are_small(f: &[Fix<20>]) -> bool
-    ensures { IsTrue result → (i : ℕ) → i < length f.now → unsigned_abs (number_at f.now i) ≤ 2 ^ 50 }
+    ensures { IsTrue result → (i : ℕ) → i < length f.now
+        → unsigned_abs (number_at f.now i) ≤ 2 ^ 50 }
 {
     for i in 0..f.len() {
         if f[i].mid.unsigned_abs() > 1 << 50 {
@@ -176,7 +179,8 @@ fn reach_into(dual: &Dual, f: &[Fix<20>], u: &mut Array<Fix<44>>) -> bool
     ensures len { length u.new ≡ length u.old }
     ensures reached { IsTrue result → (k : ℕ) → k < dual.now.nv
         → number_at u.new k ≡ reach (duals.problem dual.now) (number_at f.now) k }
-    ensures near { IsTrue result → (k : ℕ) → k < dual.now.nv → unsigned_abs (number_at u.new k) ≤ 2 ^ 59 }
+    ensures near { IsTrue result → (k : ℕ) → k < dual.now.nv
+        → unsigned_abs (number_at u.new k) ≤ 2 ^ 59 }
 {
     for k in 0..dual.nv {
         match narrow_reach(&reach_at(dual, f, k)) {
@@ -261,7 +265,8 @@ fn limited_sum(total: u128, a: u128, b: u128) -> Option<u128>
 /// Whether the sum of `R f^2` is within its limit.
 fn weights_fit(dual: &Dual, f: &[Fix<20>]) -> bool
     requires { dual.now.m ≤ length f.now }
-    ensures { IsTrue result → weight_to (duals.problem dual.now) (number_at f.now) dual.now.m ≤ 2 ^ 124 }
+    ensures { IsTrue result
+        → weight_to (duals.problem dual.now) (number_at f.now) dual.now.m ≤ 2 ^ 124 }
 {
     let r = dual.r.as_slice();
     let mut total = 0u128;
@@ -277,7 +282,8 @@ fn weights_fit(dual: &Dual, f: &[Fix<20>]) -> bool
 /// Whether the sum of `2^37 b f` is, in size.
 fn pulls_fit(dual: &Dual, f: &[Fix<20>]) -> bool
     requires { dual.now.m ≤ length f.now }
-    ensures { IsTrue result → pull_to (duals.problem dual.now) (number_at f.now) dual.now.m ≤ 2 ^ 124 }
+    ensures { IsTrue result
+        → pull_to (duals.problem dual.now) (number_at f.now) dual.now.m ≤ 2 ^ 124 }
 {
     let b = dual.b.as_slice();
     let mut total = 0u128;

@@ -1,7 +1,6 @@
 // Runs with a tape, with their exact bytes.
 use super::{SLIDE, TRACE, cabinet_of, contains, sink_of, tell, tell_with, words_of};
 use crate::run_words;
-use std::alloc::{AllocError, Global};
 use std::test::Fail;
 
 const SLIDE_BY_EXPONENT: &str =
@@ -136,37 +135,6 @@ fn a_tape_that_fails_to_be_read_leaves_nothing(rt: HostRuntime) -> Result<(), Fa
     let status = run_words(&rt, alloc, words.as_slice(), &mut cabinet, &mut sink);
     assert_eq!(rt; status.code(), 6);
     assert_eq!(rt; sink.held().len(), 0);
-    Ok(())
-}
-
-// The text of a slide with more lines at its end.
-fn with_more(alloc: Global, more: &str) -> Result<String, AllocError> {
-    let mut text = String::from_str(alloc, SLIDE)?;
-    text.push_str(more)?;
-    Ok(text)
-}
-
-#[test]
-fn motors_of_another_form_are_refused(rt: HostRuntime) -> Result<(), Fail> {
-    let alloc = rt.alloc();
-    let mut many = String::new(alloc);
-    for motor in 0..65 {
-        many.push_str("[[motor]]\njoint = \"z\"\n")?;
-    }
-    for more in [
-        "[[motor]]\njoint = \"z\"\ngear = 1025\n",
-        "[[motor]]\njoint = \"z\"\nctrlrange = [1, 1]\n",
-        "[[motor]]\njoint = \"y\"\n",
-        many.as_str(),
-    ] {
-        let text = with_more(alloc, more)?;
-        let told = tell_with(&rt, alloc, text.as_str().as_bytes(), b"x\n", &RUN_TAPE)?;
-        assert_eq!(rt; told.code, 4);
-        assert_eq!(rt;
-            told.text.as_slice(),
-            b"refused model NotBuilt\n".as_slice()
-        );
-    }
     Ok(())
 }
 

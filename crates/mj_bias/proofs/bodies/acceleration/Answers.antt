@@ -1,6 +1,6 @@
 use Rattle.std.proofs.Common.{◌≡◌, ◌^◌, ℤ, IfOk, ap, ap₂, subst, ◌∙◌}
 use Rattle.mj_types.specs.declared.range.Quantity.TheVariants as kind
-use Rattle.mj_bias.specs.Measures.{Measured, numbers, totals, sum_of, multiple, settled_by, judged}
+use Rattle.mj_bias.specs.Measures.{Measured, numbers, totals, sum_of, multiple, settled_by, measure_fault}
 use Rattle.mj_bias.specs.Steps.{acceleration_there}
 use Rattle.mj_bias.proofs.bodies.acceleration.Goals as goal
 
@@ -16,4 +16,4 @@ unfolding acceleration_there
 returns-clause-first g c =
     let drift = totals g.K.Carry.wide_width c.args.drift.now in
     let e = c.add_multiple.ensures ∙ ap₂ (λ (k : ℤ) (s : Measured). sum_of drift (multiple k s)) c.minus_one.ensures c.fall.ensures in
-    c.settle_vector.ensures.first ∙ ap (λ (x : Measured). judged kind.BodyMotion c.args.k (2 ^ 56) (settled_by g.K.Carry.settled 32 x)) e
+    c.settle_vector.ensures.first ∙ ap (λ (x : Measured). measure_fault kind.BodyMotion c.args.k (2 ^ 56) (settled_by g.K.Carry.settled 32 x)) e

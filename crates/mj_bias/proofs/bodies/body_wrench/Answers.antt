@@ -5,7 +5,7 @@ use Rattle.fx_vec.specs.Views.{mids, inertia, spatial_sums}
 use Rattle.mj_types.specs.declared.range.Quantity.TheVariants as kind
 use Rattle.mj_types.specs.Ranges.{unless}
 use Rattle.mj_bias.specs.Faults.{is_within6}
-use Rattle.mj_bias.specs.Measures.{Measured, totals, judged}
+use Rattle.mj_bias.specs.Measures.{Measured, totals, measure_fault}
 use Rattle.mj_bias.specs.Steps.{velocity_there, momentum_there}
 use Rattle.mj_bias.proofs.WrenchLaws.{unless_passes, within6_tested, wrench_of_sums}
 use Rattle.mj_bias.proofs.bodies.body_wrench.Goals as goal
@@ -27,7 +27,7 @@ unfolding velocity_there
 returns-in_err-p-clause-first g c =
     let i = inertia c.args.inertia.now in
     let r = err_from_is_err_and c.from_residual-in_err-p.result c.from_residual-in_err-p.ensures.1 in
-    let momentum = ap (λ (s : Measured). judged kind.BodyMotion c.args.k (2 ^ 62) (momentum_there g.K.Carry.settled i s)) c.in_ok-v.ensures.value in
+    let momentum = ap (λ (s : Measured). measure_fault kind.BodyMotion c.args.k (2 ^ 62) (momentum_there g.K.Carry.settled i s)) c.in_ok-v.ensures.value in
     rw (r.1, r.2) (pass_first _ _ _ c.in_ok-v.ensures.first (pass_first _ _ _ c.in_ok-a.ensures.first (stop_first _ _ _ (c.in_err-p.ensures.first ∙ momentum))))
 
 pub returns-in_err-unless-clause-first : goal.returns-in_err-unless-clause-first
@@ -35,7 +35,7 @@ unfolding velocity_there
 returns-in_err-unless-clause-first g c =
     let i = inertia c.args.inertia.now in
     let r = err_from_is_err_and c.from_residual-in_err-unless.result c.from_residual-in_err-unless.ensures.1 in
-    let momentum = ap (λ (s : Measured). judged kind.BodyMotion c.args.k (2 ^ 62) (momentum_there g.K.Carry.settled i s)) c.in_ok-v.ensures.value in
+    let momentum = ap (λ (s : Measured). measure_fault kind.BodyMotion c.args.k (2 ^ 62) (momentum_there g.K.Carry.settled i s)) c.in_ok-v.ensures.value in
     let force = wrench_of_sums g.K.Carry.settled (mids c.args.gravity.now) i (totals g.K.Carry.wide_width c.args.motion.now) (totals g.K.Carry.wide_width c.args.drift.now) _ _ _ (totals g.K.Carry.wide_width c.wrench-force.result)
     c.in_ok-a.ensures.value c.in_ok-v.ensures.value c.in_ok-p.ensures.value c.wrench-force.ensures.value in
     rw (r.1, r.2)
@@ -57,7 +57,7 @@ pub returns-clause-first : goal.returns-clause-first
 unfolding velocity_there
 returns-clause-first g c =
     let i = inertia c.args.inertia.now in
-    let momentum = ap (λ (s : Measured). judged kind.BodyMotion c.args.k (2 ^ 62) (momentum_there g.K.Carry.settled i s)) c.in_ok-v.ensures.value in
+    let momentum = ap (λ (s : Measured). measure_fault kind.BodyMotion c.args.k (2 ^ 62) (momentum_there g.K.Carry.settled i s)) c.in_ok-v.ensures.value in
     let force = wrench_of_sums g.K.Carry.settled (mids c.args.gravity.now) i (totals g.K.Carry.wide_width c.args.motion.now) (totals g.K.Carry.wide_width c.args.drift.now) _ _ _ (totals g.K.Carry.wide_width c.wrench-force.result)
     c.in_ok-a.ensures.value c.in_ok-v.ensures.value c.in_ok-p.ensures.value c.wrench-force.ensures.value in
     pass_first _ _ _ c.in_ok-v.ensures.first (pass_first _ _ _ c.in_ok-a.ensures.first (pass_first _ _ _ (c.in_ok-p.ensures.first ∙ momentum)

@@ -2,7 +2,7 @@ use Rattle.std.proofs.Common.{◌≡◌, ◌*◌, ◌^◌, IfOk, refl, ap, subst
 use Rattle.fx_num.specs.Radii.{radius_limit}
 use Rattle.fx_vec.specs.Views.{inertia}
 use Rattle.mj_types.specs.declared.range.Quantity.TheVariants as kind
-use Rattle.mj_bias.specs.Measures.{Measured, numbers, totals, momentum_of, settled_by, judged}
+use Rattle.mj_bias.specs.Measures.{Measured, numbers, totals, momentum_of, settled_by, measure_fault}
 use Rattle.mj_bias.specs.Steps.{momentum_there}
 use Rattle.mj_bias.proofs.SeenLaws.{same_measured}
 use Rattle.mj_bias.proofs.MeasureLaws.{none_within, sum_is}
@@ -28,4 +28,4 @@ unfolding momentum_there
 returns-clause-first g c =
     let s = momentum_of (inertia c.args.inertia.now) (numbers g.K.Carry.width c.args.v.now) in
     let e = sum_is (totals g.K.Carry.wide_width c.no_sums-sum.result) (totals g.K.Carry.wide_width c.inertia_into.new.out) s c.no_sums-sum.ensures (same_measured _ _ c.inertia_into.ensures.mid c.inertia_into.ensures.width) in
-    c.settle_vector.ensures.first ∙ ap (λ (x : Measured). judged kind.BodyMotion c.args.k (2 ^ 62) (settled_by g.K.Carry.settled 32 x)) e
+    c.settle_vector.ensures.first ∙ ap (λ (x : Measured). measure_fault kind.BodyMotion c.args.k (2 ^ 62) (settled_by g.K.Carry.settled 32 x)) e

@@ -1,7 +1,7 @@
 use Rattle.std.proofs.Common.{◌≡◌, ◌+◌, ◌*◌, ◌^◌, IfOk, refl, ap, subst, ◌∙◌, lit<}
 use Rattle.fx_num.specs.Radii.{radius_limit}
 use Rattle.mj_types.specs.declared.range.Quantity.TheVariants as kind
-use Rattle.mj_bias.specs.Measures.{Measured, numbers, totals, motion_rate, settled_by, judged}
+use Rattle.mj_bias.specs.Measures.{Measured, numbers, totals, motion_rate, settled_by, measure_fault}
 use Rattle.mj_bias.proofs.SeenLaws.{same_measured}
 use Rattle.mj_bias.proofs.MeasureLaws.{none_within, sum_is}
 use Rattle.mj_bias.proofs.SizeLaws.{fits6, narrow6, motion_cross_size-le, motion_cross_width-le}
@@ -38,4 +38,4 @@ pub returns-clause-first : goal.returns-clause-first
 returns-clause-first g c =
     let s = motion_rate (numbers g.K.Carry.width c.args.turn.now) (numbers g.K.Carry.width c.args.column.now) in
     let e = sum_is (totals g.K.Carry.wide_width c.no_sums-sum.result) (totals g.K.Carry.wide_width c.motion_cross_into.new.out) s c.no_sums-sum.ensures (same_measured _ _ c.motion_cross_into.ensures.mid c.motion_cross_into.ensures.width) in
-    c.settle_vector.ensures.first ∙ ap (λ (x : Measured). judged kind.DofMotion (c.args.j + 1) (2 ^ 56) (settled_by g.K.Carry.settled 32 x)) e
+    c.settle_vector.ensures.first ∙ ap (λ (x : Measured). measure_fault kind.DofMotion (c.args.j + 1) (2 ^ 56) (settled_by g.K.Carry.settled 32 x)) e

@@ -2,7 +2,7 @@ use Rattle.std.proofs.Common.{rules, ◌≡◌, ℕ, ◌+◌, ◌^◌, ◌<◌, 
 use Rattle.fx_num.specs.Radii.{radius_limit}
 use Rattle.mj_types.specs.declared.range.Quantity.TheVariants as kind
 use Rattle.mj_types.specs.Parts.{dof}
-use Rattle.mj_bias.specs.Measures.{Measured, numbers, totals, no_measure, numbers_at, settled_by, judged, IsWithin}
+use Rattle.mj_bias.specs.Measures.{Measured, numbers, totals, no_measure, numbers_at, settled_by, measure_fault, IsWithin}
 use Rattle.mj_bias.proofs.SeenLaws.{seen-read}
 use Rattle.mj_bias.proofs.StepLaws.{within_passes, base_there, carrier_shared, carrier_own}
 use Rattle.mj_bias.proofs.down.carrier.Goals as goal
@@ -35,7 +35,7 @@ returns-then-base-j-clause-first g c =
     let x = c.args.out.now in
     let e = base_there m c.args.j c.entry.result.now c.entry.ensures in
     let below : (dof m.dofs c.args.j).base < c.args.j = omega arith in
-    sym (ap (judged kind.DofMotion (c.args.j + 1) (2 ^ 48)) (carrier_shared g.K.Carry.settled g.K.Carry.width g.K.Carry.wide_width m x c.args.b c.args.j below)
+    sym (ap (measure_fault kind.DofMotion (c.args.j + 1) (2 ^ 48)) (carrier_shared g.K.Carry.settled g.K.Carry.width g.K.Carry.wide_width m x c.args.b c.args.j below)
     ∙ within_passes kind.DofMotion (c.args.j + 1) (2 ^ 48) _ (c.requires.small (dof m.dofs c.args.j).base below))
 
 pub returns-else-base-j-clause-value : goal.returns-else-base-j-clause-value
@@ -58,4 +58,4 @@ returns-else-base-j-clause-first g c =
     let there : c.args.b + 1 < length x.motion = omega (arith, c.requires.room.motion) in
     let s = sym (ap (settled_by g.K.Carry.settled 32) (seen-read (totals g.K.Carry.wide_width) no_measure x.motion (c.args.b + 1) c.entry-else-base-j.result.now there c.entry-else-base-j.ensures))
     ∙ sym (carrier_own g.K.Carry.settled g.K.Carry.width g.K.Carry.wide_width m x c.args.b c.args.j own) in
-    c.settle_vector.ensures.first ∙ ap (judged kind.DofMotion (c.args.j + 1) (2 ^ 48)) s
+    c.settle_vector.ensures.first ∙ ap (measure_fault kind.DofMotion (c.args.j + 1) (2 ^ 48)) s

@@ -6,7 +6,7 @@ use Rattle.fx_vec.specs.Views.{spatial}
 use Rattle.mj_types.specs.declared.range.Quantity.TheVariants as kind
 use Rattle.mj_types.specs.Parts.{no_motion}
 use Rattle.mj_bias.specs.Movement.{is_translation}
-use Rattle.mj_bias.specs.Measures.{Measured, exact, numbers, no_measure, judged, IsWithin}
+use Rattle.mj_bias.specs.Measures.{Measured, exact, numbers, no_measure, measure_fault, IsWithin}
 use Rattle.mj_bias.specs.Steps.{rate_there}
 use Rattle.mj_bias.proofs.SeenLaws.{seen-same, seen-other}
 use Rattle.mj_bias.proofs.StepLaws.{exact_within}
@@ -24,14 +24,14 @@ returns-in_err-rate-clause-first g c =
     let constant = is_translation c.args.model.now c.args.j in
     rw (r.1, r.2)
     (pass_first _ _ _ (c.in_ok-turn.ensures.first)
-    (c.in_err-rate.ensures.first ∙ ap₂ (λ (t s : Measured). judged kind.DofMotion (c.args.j + 1) (2 ^ 56) (rate_there g.K.Carry.settled constant t s)) c.in_ok-turn.ensures.value e))
+    (c.in_err-rate.ensures.first ∙ ap₂ (λ (t s : Measured). measure_fault kind.DofMotion (c.args.j + 1) (2 ^ 56) (rate_there g.K.Carry.settled constant t s)) c.in_ok-turn.ensures.value e))
 
 pub returns-clause-first : goal.returns-clause-first
 returns-clause-first g c =
     let e = c.exact6-column.ensures ∙ ap (λ s. exact (spatial s)) (sym (c.entry.ensures no_motion)) in
     let constant = is_translation c.args.model.now c.args.j in
     pass_first _ _ _ (c.in_ok-turn.ensures.first)
-    (c.in_ok-rate.ensures.first ∙ ap₂ (λ (t s : Measured). judged kind.DofMotion (c.args.j + 1) (2 ^ 56) (rate_there g.K.Carry.settled constant t s)) c.in_ok-turn.ensures.value e)
+    (c.in_ok-rate.ensures.first ∙ ap₂ (λ (t s : Measured). measure_fault kind.DofMotion (c.args.j + 1) (2 ^ 56) (rate_there g.K.Carry.settled constant t s)) c.in_ok-turn.ensures.value e)
 
 pub returns-clause-column : goal.returns-clause-column
 returns-clause-column g c =

@@ -2,7 +2,7 @@ use Rattle.std.proofs.Common.{◌≡◌, ℕ, ◌-◌, SFits, unsigned_abs, ap, 
 use Rattle.std.proofs.lemmas.Int.{to_z-of_z}
 use mir.Syntax.{w64}
 use Rattle.mj_types.specs.Ranges.{named}
-use Rattle.mj_bias.specs.Measures.{measured, totals, settled_by, judged}
+use Rattle.mj_bias.specs.Measures.{measured, totals, settled_by, measure_fault}
 use Rattle.mj_bias.proofs.settling.settle_vector.Goals as goal
 
 pub returns-in-Ok-clause-value : goal.returns-in-Ok-clause-value
@@ -23,7 +23,7 @@ returns-in-Ok-clause-first g c =
     let e : g.row.P - g.row.F ≡ 32 = omega arith in
     let first = simp to_z-of_z at c.in-Ok.ensures.first in
     ap (named c.args.kind c.args.index) first
-    ∙ ap (λ (n : ℕ). judged c.args.kind c.args.index (unsigned_abs c.args.limit) (settled_by g.K.Carry.settled n (totals g.K.Carry.wide_width c.args.sum.now))) e
+    ∙ ap (λ (n : ℕ). measure_fault c.args.kind c.args.index (unsigned_abs c.args.limit) (settled_by g.K.Carry.settled n (totals g.K.Carry.wide_width c.args.sum.now))) e
 
 pub returns-in-Err-clause-first : goal.returns-in-Err-clause-first
 returns-in-Err-clause-first g c =
@@ -31,4 +31,4 @@ returns-in-Err-clause-first g c =
     let e : g.row.P - g.row.F ≡ 32 = omega arith in
     let first = simp to_z-of_z at c.in-Err.ensures.first in
     c.fault.ensures ∙ ap (named c.args.kind c.args.index) first
-    ∙ ap (λ (n : ℕ). judged c.args.kind c.args.index (unsigned_abs c.args.limit) (settled_by g.K.Carry.settled n (totals g.K.Carry.wide_width c.args.sum.now))) e
+    ∙ ap (λ (n : ℕ). measure_fault c.args.kind c.args.index (unsigned_abs c.args.limit) (settled_by g.K.Carry.settled n (totals g.K.Carry.wide_width c.args.sum.now))) e

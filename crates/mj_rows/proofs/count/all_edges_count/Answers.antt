@@ -2,7 +2,6 @@ use Rattle.std.proofs.Common.{◌≡◌, ℕ, ◌+◌, length, ap, sym, subst, �
 use Rattle.std.proofs.lemmas.List.Elements.{All-get_or}
 use Rattle.fx_whole.specs.Joined.{joined}
 use Rattle.mj_types.specs.declared.carriers.Contact.{Contact}
-use Rattle.mj_types.specs.Placed.{Placing}
 use Rattle.mj_contact.specs.Sizes.{IsUsable}
 use Rattle.mj_rows.specs.Constraints.{contact, no_contact}
 use Rattle.mj_rows.specs.Edges.{edges, edge_of, edge_count, first_edge}

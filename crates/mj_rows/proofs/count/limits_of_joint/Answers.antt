@@ -1,4 +1,4 @@
-use Rattle.std.proofs.Common.{ap, sym, ◌∙◌}
+use Rattle.std.proofs.Common.{ap, ◌∙◌}
 use Rattle.std.specs.Prelude.{cond, ℕ}
 use Rattle.mj_rows.specs.Limits.{is_low, is_high, joint_extent, low_limit, high_limit}
 use Rattle.mj_rows.proofs.CountLaws.{count_both}

@@ -1,4 +1,4 @@
-use Rattle.std.proofs.Common.{ap, sym, ◌∙◌}
+use Rattle.std.proofs.Common.{ap, ◌∙◌}
 use Rattle.std.specs.Prelude.{cond, ℕ}
 use Rattle.mj_types.specs.Parts.{number_at}
 use Rattle.mj_rows.specs.Limits.{is_low, is_high, tendon_extent, tendon_low_limit, tendon_high_limit}

@@ -1,4 +1,4 @@
-use Rattle.std.proofs.Common.{◌≡◌, ℕ, ◌+◌, List, ◌++◌, length, ap, ap₂, sym, ◌∙◌, length-append}
+use Rattle.std.proofs.Common.{◌≡◌, ℕ, ◌+◌, List, ◌++◌, length, ap₂, sym, ◌∙◌, length-append}
 use Rattle.mj_types.specs.Parts.{number_at}
 use Rattle.mj_rows.specs.Constraint.{Constraint}
 use Rattle.mj_rows.specs.Constraints.{all_equalities, all_frictions, all_joint_limits, all_tendon_limits, all_edges}

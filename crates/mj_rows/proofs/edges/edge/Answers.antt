@@ -1,8 +1,8 @@
-use Rattle.std.proofs.Common.{◌≡◌, ap₂, ap, ◌∙◌}
+use Rattle.std.proofs.Common.{ap₂, ◌∙◌}
 use Rattle.std.proofs.lemmas.Result.{err_from_is_err_and}
 use Rattle.mj_types.specs.declared.parts.Geom.{Geom}
 use Rattle.mj_types.specs.Placed.{placing_of}
-use Rattle.mj_rows.specs.Mixing.{friction, first_geom, second_geom}
+use Rattle.mj_rows.specs.Mixing.{friction}
 use Rattle.mj_rows.proofs.EdgeLaws.{edge_fault, edge_written}
 use Rattle.mj_rows.proofs.edges.edge.Goals as goal
 

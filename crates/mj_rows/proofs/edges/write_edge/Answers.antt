@@ -1,6 +1,6 @@
 use Rattle.std.proofs.Common.{ℕ, ◌^◌, arith}
 use Rattle.std.proofs.lemmas.Result.{err_from_is_err_and}
-use Rattle.fx_whole.proofs.FirstLaws.{stop_here, pass_more}
+use Rattle.fx_whole.proofs.FirstLaws.{stop_here}
 use Rattle.mj_types.specs.declared.range.Quantity.TheVariants as kind
 use Rattle.mj_types.specs.Ranges.{limited}
 use Rattle.mj_rows.specs.Edges.{edge_slope}

@@ -1,4 +1,4 @@
-use Rattle.std.proofs.Common.{◌≡◌, ℕ, ◌<◌, pos, length}
+use Rattle.std.proofs.Common.{◌≡◌, ℕ, ◌<◌, pos}
 use Rattle.mj_types.specs.Parts.{number_at}
 use Rattle.mj_rows.proofs.jacobian.clear.Given as goal
 

@@ -1,4 +1,4 @@
-use Rattle.std.proofs.Common.{◌≡◌, ℕ, ◌<◌, ◌≤◌, neg_ℤ, length}
+use Rattle.std.proofs.Common.{◌≡◌, ℕ, ◌<◌, ◌≤◌, neg_ℤ}
 use Rattle.mj_types.specs.Parts.{number_at}
 use Rattle.mj_rows.proofs.jacobian.negate.Given as goal
 

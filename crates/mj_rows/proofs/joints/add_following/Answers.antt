@@ -1,6 +1,6 @@
-use Rattle.std.proofs.Common.{◌≤◌, ◌^◌, unsigned_abs, sym, subst, arith}
-use Rattle.std.specs.Prelude.{◌==◌, ◌-◌}
-use Rattle.mj_types.specs.Parts.{joint, number_at}
+use Rattle.std.proofs.Common.{◌^◌, arith}
+use Rattle.std.specs.Prelude.{◌==◌}
+use Rattle.mj_types.specs.Parts.{number_at}
 use Rattle.mj_rows.proofs.SizeLaws.{grows}
 use Rattle.mj_rows.proofs.joints.add_following.Goals as goal
 

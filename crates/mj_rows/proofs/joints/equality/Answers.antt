@@ -1,6 +1,5 @@
-use Rattle.std.proofs.Common.{refl, ◌≡◌, ℕ, ◌<◌, ◌≤◌, ◌^◌, ◌+◌, ℤ, pos, length, unsigned_abs, false, None, ap, sym, subst, ◌∙◌, arith}
+use Rattle.std.proofs.Common.{refl, ◌≡◌, ℕ, ◌<◌, ◌+◌, ℤ, length, false, None, ap, subst, ◌∙◌, arith}
 use Rattle.std.proofs.lemmas.Result.{err_from_is_err_and}
-use Rattle.fx_num.specs.declared.number.Number.{Number}
 use Rattle.mj_types.specs.declared.model.Model.{Model}
 use Rattle.mj_types.specs.declared.parts.Equality.{Equality}
 use Rattle.mj_types.specs.declared.rows.Source.TheVariants as source

@@ -1,4 +1,4 @@
-use Rattle.std.proofs.Common.{◌≡◌, ◌≤◌, ◌^◌, ◌+◌, ℤ, pos, false, unsigned_abs, ap, ap₂, sym, subst, ◌∙◌, arith}
+use Rattle.std.proofs.Common.{◌^◌, ◌+◌, ℤ, false, ap, ap₂, sym, subst, ◌∙◌, arith}
 use Rattle.fx_num.specs.declared.number.Number.{Number}
 use Rattle.mj_types.specs.declared.parts.Joint.{Joint}
 use Rattle.mj_types.specs.declared.parts.Soft.{Soft}

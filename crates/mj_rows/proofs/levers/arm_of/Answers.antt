@@ -1,11 +1,9 @@
-use Rattle.std.proofs.Common.{◌≡◌, ℕ, ℤ, ◌+◌, ◌-◌, ◌^◌, ap, sym, subst, ◌∙◌, arith}
-use Rattle.fx_vec.specs.Vectors.{Triple, minus}
+use Rattle.std.proofs.Common.{◌+◌, ◌^◌, subst, arith}
 use Rattle.fx_vec.specs.Sizes.{Within}
 use Rattle.fx_vec.specs.Views.{mids}
 use Rattle.fx_vec.specs.declared.vector.Vector3.{Vector3}
 use Rattle.fx_vec.proofs.Bounds.{within-le}
 use Rattle.mj_types.specs.Parts.{no_vector}
-use Rattle.mj_types.specs.Placed.{vector_at}
 use Rattle.mj_rows.proofs.levers.arm_of.Goals as goal
 
 pub minus-requires : goal.minus-requires

@@ -1,4 +1,4 @@
-use Rattle.std.proofs.Common.{◌≡◌, ℕ, ◌^◌, ap, sym, subst, ◌∙◌}
+use Rattle.std.proofs.Common.{◌^◌, subst}
 use Rattle.fx_vec.specs.Sizes.{Within6}
 use Rattle.fx_vec.specs.Views.{spatial}
 use Rattle.fx_vec.specs.declared.vector.Vector6.{Vector6}

@@ -1,8 +1,8 @@
-use Rattle.std.proofs.Common.{◌≡◌, ℕ, ◌+◌, ◌-◌, ◌<◌, ◌≤◌, length, ap, sym, subst, ◌∙◌, arith}
+use Rattle.std.proofs.Common.{◌≡◌, ℕ, ◌-◌, ◌<◌, ◌≤◌, length, ap, ◌∙◌, arith}
 use Rattle.mj_types.specs.declared.model.Model.{Model}
 use Rattle.mj_types.specs.declared.parts.Body.{Body}
 use Rattle.mj_types.specs.declared.parts.Dof.{Dof}
-use Rattle.mj_types.specs.Parts.{body, dof, joint, no_body, no_dof}
+use Rattle.mj_types.specs.Parts.{body, dof, no_body, no_dof}
 use Rattle.mj_rows.proofs.TreeLaws.{root_there, body_there}
 use Rattle.mj_rows.proofs.levers.root_of.Goals as goal
 

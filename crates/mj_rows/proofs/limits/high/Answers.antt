@@ -1,4 +1,4 @@
-use Rattle.std.proofs.Common.{◌≡◌, ◌≤◌, ◌^◌, ℤ, pos, neg_ℤ, unsigned_abs, ap, ◌∙◌, arith}
+use Rattle.std.proofs.Common.{◌^◌, ℤ, neg_ℤ, ap, ◌∙◌, arith}
 use Rattle.fx_num.specs.declared.number.Number.{Number}
 use Rattle.mj_types.specs.Parts.{number_at}
 use Rattle.mj_rows.specs.Joints.{one, at_joint}

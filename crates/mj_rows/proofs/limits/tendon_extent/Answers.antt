@@ -1,4 +1,4 @@
-use Rattle.std.proofs.Common.{◌^◌, ◌≤◌, unsigned_abs, ℤ, pos, ap, sym, subst}
+use Rattle.std.proofs.Common.{◌^◌, ◌≤◌, unsigned_abs, pos, subst}
 use Rattle.fx_num.specs.declared.number.Number.{Number}
 use Rattle.mj_types.specs.declared.parts.Tendon.{Tendon}
 use Rattle.mj_types.specs.Lawful.{HasRange, IsUpTo, IsSoft}

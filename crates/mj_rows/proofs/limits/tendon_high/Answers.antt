@@ -1,4 +1,4 @@
-use Rattle.std.proofs.Common.{◌≡◌, ◌≤◌, ◌^◌, ℤ, pos, neg_ℤ, unsigned_abs, ap, sym, subst, ◌∙◌, arith}
+use Rattle.std.proofs.Common.{◌≤◌, ◌^◌, ℤ, neg_ℤ, unsigned_abs, ap, sym, subst, ◌∙◌, arith}
 use Rattle.std.proofs.lemmas.Int.{ints}
 use Rattle.mj_types.specs.Parts.{number_at, no_tendon}
 use Rattle.mj_rows.proofs.RowLaws.{tendon_high_row, tendon_high_written, tendon_high_sound, are_terms}

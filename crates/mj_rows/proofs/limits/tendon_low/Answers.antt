@@ -1,5 +1,4 @@
-use Rattle.std.proofs.Common.{◌≡◌, ◌≤◌, ◌^◌, ℤ, pos, neg_ℤ, unsigned_abs, ap, sym, subst, ◌∙◌, arith}
-use Rattle.std.proofs.lemmas.Int.{ints}
+use Rattle.std.proofs.Common.{◌∙◌}
 use Rattle.mj_types.specs.Parts.{number_at, no_tendon}
 use Rattle.mj_rows.proofs.RowLaws.{tendon_low_row, tendon_low_written, tendon_low_sound, are_terms}
 use Rattle.mj_rows.proofs.limits.tendon_low.Goals as goal

@@ -1,9 +1,8 @@
-use Rattle.std.proofs.Common.{◌≡◌, ℕ, ◌+◌, ◌-◌, ◌≤◌, ◌^◌, ◌+ℤ◌, ℤ, pos, unsigned_abs, length, ap, ap₂, sym, subst, ◌∙◌, arith}
-use Rattle.fx_whole.specs.Sums.{sum_to}
+use Rattle.std.proofs.Common.{ℕ, ◌-◌, ◌≤◌, ◌^◌, ◌+ℤ◌, ℤ, unsigned_abs, ap, ap₂, sym, subst, ◌∙◌, arith}
 use Rattle.fx_whole.proofs.SumLaws.{sum_to-more}
 use Rattle.mj_types.specs.declared.parts.Term.{Term}
 use Rattle.mj_types.specs.Lawful.{IsScalar}
-use Rattle.mj_types.specs.Parts.{term, no_term, number_at}
+use Rattle.mj_types.specs.Parts.{term, no_term}
 use Rattle.mj_rows.specs.Joints.{at_joint}
 use Rattle.mj_rows.proofs.limits.write_terms.Goals as goal
 

@@ -1,4 +1,4 @@
-use Rattle.std.proofs.Common.{◌≡◌, ℕ, ◌-◌, ◌*◌, ◌^◌, ◌≤◌, unsigned_abs, length}
+use Rattle.std.proofs.Common.{◌≡◌, ℕ, ◌-◌, ◌*◌, ◌^◌, ◌≤◌, unsigned_abs}
 use Rattle.fx_whole.specs.Sums.{sum_to}
 use Rattle.mj_types.specs.Parts.{term, number_at}
 use Rattle.mj_rows.specs.Joints.{at_joint}

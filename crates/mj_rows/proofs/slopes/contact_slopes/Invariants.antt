@@ -1,9 +1,6 @@
-use Rattle.std.proofs.Common.{◌≡◌, ℕ, None}
-use Rattle.fx_whole.specs.First.{first_to}
-use Rattle.mj_types.specs.declared.range.Quantity.TheVariants as kind
+use Rattle.std.proofs.Common.{◌≡◌, None}
 use Rattle.mj_types.specs.Placed.{placing_of}
-use Rattle.mj_types.specs.Ranges.{unless}
-use Rattle.mj_rows.specs.Constraint.{is_near, levers_fault}
+use Rattle.mj_rows.specs.Constraint.{levers_fault}
 use Rattle.mj_rows.specs.Edges.{lever_of}
 use Rattle.mj_rows.specs.Slopes.{AreSlopes}
 use Rattle.mj_rows.proofs.slopes.contact_slopes.Given as goal

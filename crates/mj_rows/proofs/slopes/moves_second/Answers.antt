@@ -1,4 +1,4 @@
-use Rattle.std.proofs.Common.{ap, sym, ◌∙◌}
+use Rattle.std.proofs.Common.{ap, ◌∙◌}
 use Rattle.mj_types.specs.declared.parts.Geom.{Geom}
 use Rattle.mj_rows.specs.Edges.{does_move}
 use Rattle.mj_rows.proofs.slopes.moves_second.Goals as goal

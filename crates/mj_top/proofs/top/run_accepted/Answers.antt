@@ -1,11 +1,10 @@
-use Rattle.std.proofs.Common.{◌≡◌, ◌∙◌, map, string_bytes, sym, Option, option_and_then, ap, inr, IsTrue, Bool, subst, List, ℕ}
+use Rattle.std.proofs.Common.{◌≡◌, ◌∙◌, map, string_bytes, sym, ap, inr, IsTrue, Bool, subst, List, ℕ}
 use Rattle.mj_io.proofs.Faults.{Rose-after}
 use Rattle.mj_io.proofs.Growth.{Gives-held}
+use Rattle.mj_valid.specs.Judging.{judged_bytes}
 use Rattle.mj_top.specs.Words.{step_count, tape_of}
-use Rattle.mj_top.specs.Model.{model_verdict}
-use Rattle.mj_top.specs.Outcome.{Outcome, with_words, with_model, with_file, outcome, model_cap}
-use Rattle.mj_top.specs.Ends.{Answers}
-use Rattle.mj_top.proofs.Endings.{cause-from_tape, tape_cause-earlier, with_model-same}
+use Rattle.mj_top.specs.Outcome.{IsFileOutcome, IsOutcome, model_cap}
+use Rattle.mj_top.proofs.Endings.{answers-within, file_outcome-is, cause-from_tape, tape_cause-earlier}
 use Rattle.mj_top.proofs.top.run_accepted.Goals as goal
 
 pub returns-in-Ok : goal.returns-in-Ok
@@ -25,20 +24,17 @@ returns-in-Ok g c =
     let lower = λ (n : List ℕ). Rose-after (reads n) (between n) (reads_after n) (c.in-Ok.ensures.later n) in
     record {
       outcome = λ tells.
-          let found : outcome words held ≡ with_model held_on (step_count words) (tape_of words) (model_verdict c.as_slice.result.now) =
-          ap (with_words held words) c.requires ∙ ap (option_and_then (with_file held (step_count words) (tape_of words))) (file tells)
-          ∙ ap (λ b. with_model held (step_count words) (tape_of words) (model_verdict b)) (sym (bytes tells))
-          ∙ sym (with_model-same held held_on (step_count words) (tape_of words) (model_verdict c.as_slice.result.now) c.in-Ok.ensures.holds_on) in
           let still = let P = λ (b : Bool). IsTrue b in subst P (sym c.in-Ok.ensures.tells_on) tells in
-          let P = λ (o : Option Outcome). Answers o answer (g.S.Sink.holds c.args.sink.now) (g.S.Sink.holds c.run_model_file.new.sink) in
-          subst P (sym found) (c.run_model_file.ensures.outcome still);
+          answers-within (IsFileOutcome held_on (step_count words) (tape_of words) c.as_slice.result.now) (IsOutcome words held) answer _ _
+          (file_outcome-is words held held_on (given tells).0 c.as_slice.result.now c.requires c.in-Ok.ensures.holds_on (file tells) (bytes tells))
+          (c.run_model_file.ensures.outcome still);
       nothing = c.run_model_file.ensures.nothing;
       cause = cause-from_tape words (g.C.Cabinet.tells c.args.cabinet.now) held (tape_of words) answer reads reads_after writes writes_after c.requires
           (λ rose e. inr (
             rose,
             λ tells.
                 let accepted = c.run_model_file.ensures.accepted e in
-                ((given tells).0, file tells, (accepted.0, ap model_verdict (sym (bytes tells)) ∙ accepted.1)),
+                ((given tells).0, file tells, (accepted.0, ap judged_bytes (sym (bytes tells)) ∙ accepted.1)),
           ))
           (tape_cause-earlier (tape_of words) answer reads between reads_after writes writes_after lower c.run_model_file.ensures.cause);
     }

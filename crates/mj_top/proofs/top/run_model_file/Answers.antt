@@ -1,34 +1,44 @@
-use Rattle.std.proofs.Common.{◌≡◌, Some, Ok, Err, map, string_bytes, refl, subst, ap}
-use Rattle.mj_types.specs.declared.status.Status.{Status}
-use Rattle.mj_top.specs.Words.{tape_of}
-use Rattle.mj_top.specs.Model.{model_verdict, refusal}
-use Rattle.mj_top.specs.Outcome.{model_refused}
-use Rattle.mj_top.specs.Ends.{Ends}
+use Rattle.std.proofs.Common.{◌≡◌, Ok, Err, Some, map, string_bytes, refl, sym, subst, ap}
 use Rattle.mj_io.proofs.Memory.{or_memory-ok, or_memory-err}
-use Rattle.mj_types.specs.declared.status.ModelCode.TheVariants.{Memory}
-use Rattle.mj_top.proofs.Endings.{answers-from_ends, nothing-from_ends, tape_cause-from_ends}
+use Rattle.mj_read.specs.Document.{no_memory}
+use Rattle.mj_types.specs.declared.status.Status.{Status}
+use Rattle.mj_valid.specs.Judging.{accepted_of, judged_bytes}
+use Rattle.mj_top.specs.Words.{step_count, tape_of}
+use Rattle.mj_top.specs.Outcome.{Outcome, IsFileOutcome, with_accepted, model_refused}
+use Rattle.mj_top.specs.Ends.{Ends}
+use Rattle.mj_top.proofs.Endings.{answers-within, answers-from_ends, nothing-from_ends, tape_cause-from_ends}
 use Rattle.mj_top.proofs.top.run_model_file.Goals as goal
 
 pub returns-in-Ok : goal.returns-in-Ok
 returns-in-Ok g c =
-    let judged : model_verdict c.args.bytes.now ≡ Ok c.in-Ok.model = or_memory-ok (refusal Memory) c.in-Ok.model (model_verdict c.args.bytes.now) c.in-Ok.ensures.judged in
+    let words = map string_bytes c.args.words.now in
+    let held = g.C.Cabinet.holds c.args.cabinet.now in
+    let bytes = c.args.bytes.now in
+    let m = c.in-Ok.model in
+    let judged : judged_bytes bytes ≡ Ok (accepted_of m) = or_memory-ok no_memory (accepted_of m) (judged_bytes bytes) c.in-Ok.ensures in
     record {
-      outcome = λ tells. rw judged (c.run_with_tape.ensures.outcome tells);
-      nothing = c.run_with_tape.ensures.nothing;
-      cause = c.run_with_tape.ensures.cause;
-      accepted = λ e. (c.in-Ok.model, judged);
+      outcome = λ tells.
+          answers-within (λ (o : Outcome). with_accepted held (step_count words) (tape_of words) m ≡ Some o) (IsFileOutcome held (step_count words) (tape_of words) bytes)
+          c.run_accepted_model-status.result _ _ (λ o e. (Ok m, sym judged, e)) (c.run_accepted_model-status.ensures.outcome tells);
+      nothing = c.run_accepted_model-status.ensures.nothing;
+      cause = c.run_accepted_model-status.ensures.cause;
+      accepted = λ e. (m, judged);
     }
 
 pub returns-in_default : goal.returns-in_default
 returns-in_default g c =
-    let judged : model_verdict c.args.bytes.now ≡ Err c.in-Err.fault = or_memory-err (refusal Memory) c.in-Err.fault (model_verdict c.args.bytes.now) (λ same. c.in_default.not-Memory (ap (λ f. f.code) same)) c.in-Err.ensures.judged in
+    let words = map string_bytes c.args.words.now in
+    let held = g.C.Cabinet.holds c.args.cabinet.now in
+    let bytes = c.args.bytes.now in
+    let fault = c.in-Err.fault in
+    let judged : judged_bytes bytes ≡ Err fault = or_memory-err no_memory fault (judged_bytes bytes) (λ same. c.in_default.not-Memory (ap (λ f. f.code) same)) c.in-Err.ensures in
     let counts = g.C.Cabinet.faults c.args.cabinet.now in
-    let outcome = model_refused c.in-Err.fault in
+    let outcome = model_refused fault in
     let before = c.args.sink.now in
     let after = c.refuse_model.new.sink in
     record {
-      outcome = λ tells. rw judged (answers-from_ends g.S.Sink.holds g.S.Sink.faults before after (Some outcome) outcome c.refuse_model.result refl c.refuse_model.ensures);
+      outcome = λ tells. answers-from_ends g.S.Sink.holds g.S.Sink.faults before after (IsFileOutcome held (step_count words) (tape_of words) bytes) outcome c.refuse_model.result (Err fault, sym judged, refl) c.refuse_model.ensures;
       nothing = nothing-from_ends g.S.Sink.holds g.S.Sink.faults before after outcome c.refuse_model.result c.refuse_model.ensures;
-      cause = tape_cause-from_ends g.S.Sink.holds g.S.Sink.faults before after (tape_of (map string_bytes c.args.words.now)) outcome c.refuse_model.result counts counts tt c.refuse_model.ensures;
+      cause = tape_cause-from_ends g.S.Sink.holds g.S.Sink.faults before after (tape_of words) outcome c.refuse_model.result counts counts tt c.refuse_model.ensures;
       accepted = λ e. let P = λ (s : Status). Ends g.S.Sink.holds g.S.Sink.faults outcome before s after in absurd (subst P e c.refuse_model.ensures);
     }

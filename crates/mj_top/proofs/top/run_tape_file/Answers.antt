@@ -17,7 +17,7 @@ returns-in-Ok g c =
     let width = length c.args.model.now.motors in
     let values : TapeValues = record { rows = c.in-Ok.tape.rows; width = c.in-Ok.tape.width; values = raws c.in-Ok.tape.values } in
     let answer : tape_verdict width c.args.steps tape_room c.args.bytes.now ≡ Ok values = or_memory-ok Memory values (tape_verdict width c.args.steps tape_room c.args.bytes.now) c.in-Ok.ensures in
-    rw answer (inr c.run_model.ensures)
+    rw answer c.run_model.ensures
 
 pub returns-in_default : goal.returns-in_default
 returns-in_default g c =

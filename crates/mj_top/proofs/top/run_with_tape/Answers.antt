@@ -1,11 +1,11 @@
 use Rattle.std.proofs.Common.{◌≡◌, ◌∙◌, map, string_bytes, sym, Some, None, option_map, ap, take, length}
 use Rattle.mj_io.proofs.Growth.{Gives-held}
 use Rattle.mj_tape.specs.Judging.{tape_verdict}
-use Rattle.mj_top.specs.Controls.{tape_control}
+use Rattle.mj_top.specs.Controls.{controls_at}
 use Rattle.mj_top.specs.Words.{step_count, tape_of}
-use Rattle.mj_top.specs.Run.{run}
-use Rattle.mj_top.specs.Outcome.{ran, with_tape, with_tape_name, with_tape_file, tape_room, tape_cap}
-use Rattle.mj_top.proofs.Endings.{answers-from_ends, answers-from_either, nothing-from_ends, nothing-from_either, tape_cause-from_ends, tape_cause-from_either, later-status_of, later-with_tape}
+use Rattle.mj_top.specs.Run.{end_of}
+use Rattle.mj_top.specs.Outcome.{Outcome, ran, with_tape, with_tape_name, with_tape_file, tape_room, tape_cap}
+use Rattle.mj_top.proofs.Endings.{answers-from_either, nothing-from_either, tape_cause-from_either, later-status_of, later-with_tape}
 use Rattle.mj_top.proofs.top.run_with_tape.Goals as goal
 
 pub returns-in-None : goal.returns-in-None
@@ -13,33 +13,33 @@ returns-in-None g c =
     let words = map string_bytes c.args.words.now in
     let held = g.C.Cabinet.holds c.args.cabinet.now in
     let counts = g.C.Cabinet.faults c.args.cabinet.now in
-    let model = c.args.model.now in
-    let outcome = ran c.step_count.result model (tape_control None) in
-    let found : with_tape_name held (step_count words) model (tape_of words) ≡ Some outcome =
-    ap (with_tape_name held (step_count words) model) (sym c.in-None.ensures) ∙ ap (λ n. Some (ran n model (tape_control None))) (sym c.step_count.ensures) in
+    let m = c.args.model.now in
+    let outcome = ran c.step_count.result m None in
+    let found : with_tape_name held (step_count words) m (tape_of words) ≡ Some outcome =
+    ap (with_tape_name held (step_count words) m) (sym c.in-None.ensures) ∙ ap (λ n. Some (ran n m None)) (sym c.step_count.ensures) in
     record {
-      outcome = λ tells. answers-from_ends g.S.Sink.holds g.S.Sink.faults c.args.sink.now c.run_model.new.sink (with_tape_name held (step_count words) model (tape_of words)) outcome c.run_model.result found c.run_model.ensures;
-      nothing = nothing-from_ends g.S.Sink.holds g.S.Sink.faults c.args.sink.now c.run_model.new.sink outcome c.run_model.result c.run_model.ensures;
-      cause = tape_cause-from_ends g.S.Sink.holds g.S.Sink.faults c.args.sink.now c.run_model.new.sink (tape_of words) outcome c.run_model.result counts counts (later-status_of (run model (tape_control None) c.step_count.result).finish) c.run_model.ensures;
+      outcome = λ tells. answers-from_either g.S.Sink.holds g.S.Sink.faults c.args.sink.now c.run_at_rest.new.sink (λ (o : Outcome). with_tape_name held (step_count words) m (tape_of words) ≡ Some o) outcome c.run_at_rest.result found c.run_at_rest.ensures;
+      nothing = nothing-from_either g.S.Sink.holds g.S.Sink.faults c.args.sink.now c.run_at_rest.new.sink outcome c.run_at_rest.result c.run_at_rest.ensures;
+      cause = tape_cause-from_either g.S.Sink.holds g.S.Sink.faults c.args.sink.now c.run_at_rest.new.sink (tape_of words) outcome c.run_at_rest.result counts counts (later-status_of (end_of m (controls_at (length m.motors) None) c.step_count.result)) c.run_at_rest.ensures;
     }
 
 pub returns-in-Ok : goal.returns-in-Ok
 returns-in-Ok g c =
     let words = map string_bytes c.args.words.now in
     let held = g.C.Cabinet.holds c.args.cabinet.now in
-    let model = c.args.model.now in
-    let answer = tape_verdict (length model.motors) c.step_count-in-Ok.result tape_room c.as_slice.result.now in
-    let outcome = with_tape c.step_count-in-Ok.result model answer in
+    let m = c.args.model.now in
+    let answer = tape_verdict (length m.motors) c.step_count-in-Ok.result tape_room c.as_slice.result.now in
+    let outcome = with_tape c.step_count-in-Ok.result m answer in
     record {
       outcome = λ tells.
           let given = Gives-held (held c.in-Some.name.now) tape_cap c.in-Ok.bytes.items (c.in-Ok.ensures.gives tells) in
           let bytes : c.as_slice.result.now ≡ take tape_cap given.0 = c.as_slice.ensures.value ∙ given.2 in
-          let found : with_tape_name held (step_count words) model (tape_of words) ≡ Some outcome =
-          ap (with_tape_name held (step_count words) model) (sym c.in-Some.ensures) ∙ ap (option_map (with_tape_file (step_count words) model)) given.1
-          ∙ ap (λ n. Some (with_tape_file n model given.0)) (sym c.step_count-in-Ok.ensures)
-          ∙ ap (λ b. Some (with_tape c.step_count-in-Ok.result model (tape_verdict (length model.motors) c.step_count-in-Ok.result tape_room b))) (sym bytes) in
-          answers-from_either g.S.Sink.holds g.S.Sink.faults c.args.sink.now c.run_tape_file.new.sink (with_tape_name held (step_count words) model (tape_of words)) outcome c.run_tape_file.result found c.run_tape_file.ensures;
+          let found : with_tape_name held (step_count words) m (tape_of words) ≡ Some outcome =
+          ap (with_tape_name held (step_count words) m) (sym c.in-Some.ensures) ∙ ap (option_map (with_tape_file (step_count words) m)) given.1
+          ∙ ap (λ n. Some (with_tape_file n m given.0)) (sym c.step_count-in-Ok.ensures)
+          ∙ ap (λ b. Some (with_tape c.step_count-in-Ok.result m (tape_verdict (length m.motors) c.step_count-in-Ok.result tape_room b))) (sym bytes) in
+          answers-from_either g.S.Sink.holds g.S.Sink.faults c.args.sink.now c.run_tape_file.new.sink (λ (o : Outcome). with_tape_name held (step_count words) m (tape_of words) ≡ Some o) outcome c.run_tape_file.result found c.run_tape_file.ensures;
       nothing = nothing-from_either g.S.Sink.holds g.S.Sink.faults c.args.sink.now c.run_tape_file.new.sink outcome c.run_tape_file.result c.run_tape_file.ensures;
       cause = tape_cause-from_either g.S.Sink.holds g.S.Sink.faults c.args.sink.now c.run_tape_file.new.sink (tape_of words) outcome c.run_tape_file.result
-          (g.C.Cabinet.faults c.args.cabinet.now) (g.C.Cabinet.faults c.read.new.self) (later-with_tape c.step_count-in-Ok.result model answer) c.run_tape_file.ensures;
+          (g.C.Cabinet.faults c.args.cabinet.now) (g.C.Cabinet.faults c.read.new.self) (later-with_tape c.step_count-in-Ok.result m answer) c.run_tape_file.ensures;
     }

@@ -1,0 +1,6 @@
+use Rattle.std.proofs.Common.{refl}
+use Rattle.mj_io.proofs.Sent.{sent-then}
+use Rattle.mj_gen.proofs.chain.send_later_place.Goals as goal
+
+pub returns : goal.returns
+returns g c = sent-then c.send_named.ensures c.send.ensures.sent refl

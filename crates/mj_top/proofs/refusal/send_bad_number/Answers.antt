@@ -1,6 +1,0 @@
-use Rattle.std.proofs.Common.{refl}
-use Rattle.mj_io.proofs.Sent.{sent-then}
-use Rattle.mj_top.proofs.refusal.send_bad_number.Goals as goal
-
-pub returns : goal.returns
-returns g c = sent-then (sent-then (sent-then c.send.ensures.sent c.send_size.ensures.sent refl) c.send-2.ensures.sent refl) c.send_size-2.ensures.sent refl
