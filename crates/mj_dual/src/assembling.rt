@@ -108,13 +108,13 @@ fn clear(rows: &mut Rows, out: &mut Dual)
     out.clear();
 }
 
-/// The rows of a state and its dual (MuJoCo documentation, Computation chapter). `rows` becomes the list
-/// of all constraints' rows in their order - equalities, joint friction, the limits of joints and of
-/// tendons, the edges of contacts - with their Jacobians, and tells which of them are idle; `out` becomes
-/// the dual of those that aren't, where `place` is each row's number in the list. The first number out of
-/// range is how many rows there are, where those are more than the model's most; and then, row after row
-/// and named by the row's number, those of its violation and its Jacobian and those of its reduction.
-/// Takes no memory.
+/// The rows of a state and its dual (MuJoCo documentation, Computation chapter). `rows` becomes the
+/// list of all constraints' rows in their order - equalities, joint friction, the limits of joints
+/// and of tendons, the edges of contacts - with their Jacobians, and tells which of them are idle;
+/// `out` becomes the dual of those that aren't, where `place` is each row's number in the list. The
+/// first number out of range is how many rows there are, where those are more than the model's
+/// most; and then, row after row and named by the row's number, those of its violation and its
+/// Jacobian and those of its reduction. Takes no memory.
 pub fn assemble(
     model: &Model,
     state: &State,

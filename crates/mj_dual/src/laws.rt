@@ -7,7 +7,8 @@ ghost use Rattle.mj_dual.specs.Assembly.{row_list, dual_of, assembly_fault};
 ghost use Rattle.mj_dual.specs.Passing.{passing};
 ghost use Rattle.mj_dual.specs.Reductions.{Dynamics, AreSame};
 
-/// The rows that pass are found in their order: each after as many as pass before it, and no others.
+/// The rows that pass are found in their order: each after as many as pass before it, and no
+/// others.
 pub fn passing_rows_are_found()
     ensures each { (n i : ℕ) (p : ℕ → Bool) → i < n → p i ≡ true
         → passing n p (count_to i p) ≡ i }

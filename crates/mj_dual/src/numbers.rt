@@ -91,7 +91,8 @@ pub(crate) fn limited<const F: u32>(
     requires { pos 0 ≤ℤ limit }
     ensures value { IfOk result (λ x. x.mid ≡ value.now.raw) }
     ensures within { IfOk result (λ x. unsigned_abs x.mid ≤ unsigned_abs limit) }
-    ensures first { refusal_of result ≡ ranges.limited kind index (unsigned_abs limit) value.now.raw }
+    ensures first { refusal_of result
+        ≡ ranges.limited kind index (unsigned_abs limit) value.now.raw }
 {
     match narrow_within(&value.raw, limit) {
         Ok(mid) => Ok(Number { mid, rad: () }),
@@ -103,7 +104,8 @@ pub(crate) fn limited<const F: u32>(
 pub(crate) fn within_regular(value: &Wide<48>, index: usize) -> Result<Wide<48>, OutOfRange>
     ensures value { IfOk result (λ x. x ≡ value.now) }
     ensures within { IfOk result (λ x. unsigned_abs x.raw ≤ 2 ^ 72) }
-    ensures first { refusal_of result ≡ ranges.limited kind.Regularizer index (2 ^ 72) value.now.raw }
+    ensures first { refusal_of result
+        ≡ ranges.limited kind.Regularizer index (2 ^ 72) value.now.raw }
 {
     if value.raw.unsigned_abs() <= 1 << 72 {
         Ok(*value)

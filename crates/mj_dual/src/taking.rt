@@ -44,9 +44,9 @@ fn hold(entry: &Option<DualRow>, reduced: &[Fix<24>], out: &mut Dual)
     }
 }
 
-/// Reduces the row of a constraint, of which the Jacobian is given, and adds it to the list, and to the
-/// dual unless it is idle. `reduced` is working room. The refusal is that of `reduce`, and then nothing
-/// is added.
+/// Reduces the row of a constraint, of which the Jacobian is given, and adds it to the list, and to
+/// the dual unless it is idle. `reduced` is working room. The refusal is that of `reduce`, and then
+/// nothing is added.
 pub(crate) fn take_row(
     model: &Model,
     state: &State,
