@@ -1,5 +1,6 @@
 // Runs that end early, each with the first number out of range.
 use super::{SLIDE, is_told, swapped};
+use std::alloc::Global;
 use std::test::Fail;
 
 // A part of the slide, what stands in its place, what follows the file, and the kind and the index.
@@ -92,6 +93,18 @@ const EARLY: [(&str, &str, &str, &str); 16] = [
     ),
 ];
 
+// How many dofs the model of a row has.
+fn dofs_of(named: &str) -> u32 {
+    if named == "Lower index=2" { 2 } else { 1 }
+}
+
+// The trace of a run whose first step has a number out of range.
+fn early_trace(alloc: Global, dofs: u32, named: &str) -> Result<String, Fail> {
+    Ok(format!(in alloc;
+        "trace 1 nq={dofs} nv={dofs} steps=1\nend out-of-range step=1 kind={named}\n"
+    )?)
+}
+
 #[test]
 fn the_first_number_out_of_range_ends_a_run(rt: HostRuntime) -> Result<(), Fail> {
     let alloc = rt.alloc();
@@ -99,10 +112,7 @@ fn the_first_number_out_of_range_ends_a_run(rt: HostRuntime) -> Result<(), Fail>
     for (old, new, more, named) in EARLY {
         let mut model = swapped(alloc, SLIDE, old, new)?;
         model.push_str(more)?;
-        let dofs = if named == "Lower index=2" { 2 } else { 1 };
-        let trace = format!(in alloc;
-            "trace 1 nq={dofs} nv={dofs} steps=1\nend out-of-range step=1 kind={named}\n"
-        )?;
+        let trace = early_trace(alloc, dofs_of(named), named)?;
         assert!(rt; is_told(&rt, alloc, model.as_str(), &words, 3, trace.as_str())?);
     }
     Ok(())
