@@ -1,3 +1,6 @@
 pub mod CoverLaws
+pub mod PushLaws
 pub mod Radii
+pub mod RowLaws
+pub mod SolveLaws
 pub mod Told

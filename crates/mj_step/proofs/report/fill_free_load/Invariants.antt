@@ -1,7 +1,7 @@
 use Rattle.std.proofs.Common.{◌≡◌, ◌<◌, ◌≤◌, ◌^◌, ℕ, ◌-ℤ◌, length, slice_index_or, unsigned_abs}
 use Rattle.mj_types.specs.Masses.{no_near}
 use Rattle.mj_types.specs.Parts.{number_at}
-use Rattle.mj_step.proofs.report.fill_load.Given as goal
+use Rattle.mj_step.proofs.report.fill_free_load.Given as goal
 
 abbrev pub invariant-loop-i : goal.invariant-loop-i
 invariant-loop-i l = record {
