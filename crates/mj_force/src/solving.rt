@@ -7,6 +7,7 @@ ghost use Rattle.mj_optimum.specs.Shortfall.{bound2};
 ghost use Rattle.mj_optimum.specs.Stop.{stop_of};
 ghost use Rattle.mj_types.specs.Parts.{number_at};
 ghost use Rattle.mj_types.specs.Problems as problems;
+ghost use Rattle.mj_types.specs.Solved.{IsSolved};
 ghost use Rattle.mj_types.specs.StepValues.{dual_values};
 ghost use Rattle.mj_pgs.specs.Holding.{HasPlaces, HaveSamePlaces};
 ghost use Rattle.mj_force.specs.Enclosures as spec;
@@ -49,6 +50,7 @@ pub fn enclose(
         ≡ stop_of (dual_values dual.now).problem tolerance.mid iterations) }
     ensures forces { IfOk result (λ _. problems.forces forces.new
         ≡ spec.force_of (dual_values dual.now).problem tolerance.mid iterations) }
+    ensures solved { IfOk result (λ _. IsSolved dual.now forces.new) }
     ensures cost { IfOk result (λ _. cert.new.cost2
         ≡ costs.cost (dual_values dual.now).problem
         (spec.force_of (dual_values dual.now).problem tolerance.mid iterations) (pos 1)) }
