@@ -1,4 +1,5 @@
 pub mod CoverLaws
+pub mod ForceLaws
 pub mod PushLaws
 pub mod Radii
 pub mod RowLaws

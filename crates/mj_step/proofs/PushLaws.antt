@@ -1,5 +1,5 @@
 -- What pushes on the dofs: the Jacobians of the dual's rows are found in the list of rows, each in its range.
-use Rattle.std.proofs.Common.{◌≡◌, ℕ, ◌+◌, ◌-◌, ◌*◌, ◌^◌, ◌<◌, ◌≤◌, ℤ, pos, ◌+ℤ◌, ◌*ℤ◌, unsigned_abs, List, length, Option, None, refl, sym, ap, ap₂, ◌∙◌, subst, arith, mul-le-mul_right}
+use Rattle.std.proofs.Common.{◌≡◌, ℕ, suc, ◌+◌, ◌-◌, ◌*◌, ◌^◌, ◌<◌, ◌≤◌, ℤ, pos, ◌+ℤ◌, ◌*ℤ◌, unsigned_abs, List, length, Option, None, refl, sym, ap, ap₂, ◌∙◌, subst, arith, mul-le-mul_right}
 use Rattle.fx_whole.specs.Counting.{count_to}
 use Rattle.fx_whole.specs.Sums.{sum_to}
 use Rattle.fx_whole.proofs.EntryLaws.{below-within, below-is}
@@ -45,6 +45,13 @@ place-there y cs k h =
     let e : (dual_of y cs).place k ≡ passing n p k + 1 = below-within 0 (count_to n p) (λ (k : ℕ). passing n p k + 1) k h in
     let l : passing n p k < n = passing-below n p k h in
     (omega (arith, e), omega (arith, e, l))
+
+-- where entry i of the row before place p is in a table of rows
+pub entry-there : (p nv i n : ℕ) → 1 ≤ p → p * nv ≤ n → i < nv → (p - 1) * nv + i < n
+entry-there p nv i n some there h =
+    let before : p ≡ suc (p - 1) = omega arith in
+    let whole : p * nv ≡ suc (p - 1) * nv = ap (λ (k : ℕ). k * nv) before in
+    omega (arith, whole)
 
 -- ---- a Jacobian where no number of the rows is out of range
 jacobian-small : (y : Dynamics) (cs : List Constraint) (i k : ℕ) → assembly.rows_fault y cs ≡ None → i < length cs → k < y.motion.dofs

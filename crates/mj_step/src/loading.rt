@@ -32,29 +32,34 @@ fn push(nv: usize, rows: &Rows, dual: &Dual, forces: &Forces, i: usize) -> Wide<
     ensures value { result.raw ≡ spec.push_of nv rows.now dual.now forces.now i }
     ensures size { unsigned_abs result.raw ≤ 2 ^ 108 }
 {
+    let jacobians = rows.jac.as_slice();
     let mut total = Wide { raw: 0 };
     for k in 0..dual.m {
         let row = dual.place.at(k) - 1;
-        total = plus_product(
-            &total,
-            rows.jac.entry(row * nv + i),
-            forces.f.entry(k),
-        );
+        total = plus_product(&total, &jacobians[row * nv + i], forces.f.entry(k));
     }
     total
 }
 
-// The load at dof `i`, where it is in its range.
-fn loaded(free: &Fix<32>, push: &Wide<52>, i: usize) -> Result<Fix<32>, OutOfRange>
+// The load at a dof, of any size.
+fn load_of(free: &Fix<32>, push: &Wide<52>) -> Wide<32>
     requires free { unsigned_abs free.now.mid ≤ 2 ^ 54 }
     requires push { unsigned_abs push.now.raw ≤ 2 ^ 108 }
-    ensures value { IfOk result (λ x. x.mid ≡ free.now.mid +ℤ settled_mid push.now.raw 20) }
-    ensures small { IfOk result (λ x. unsigned_abs x.mid ≤ 2 ^ 54) }
-    ensures first { refusal_of result ≡ limited kind.Load (i + 1) (2 ^ 54)
-        (free.now.mid +ℤ settled_mid push.now.raw 20) }
+    ensures { result.raw ≡ free.now.mid +ℤ settled_mid push.now.raw 20 }
 {
-    let sum = i128::from(free.mid) + nearest_shift(push.raw, 20);
-    match narrow_within(&sum, 1 << 54) {
+    Wide {
+        raw: i128::from(free.mid) + nearest_shift(push.raw, 20),
+    }
+}
+
+// The load at dof `i`, where it is in its range.
+fn within_load(load: &Wide<32>, i: usize) -> Result<Fix<32>, OutOfRange>
+    requires { i < 64 }
+    ensures value { IfOk result (λ x. x.mid ≡ load.now.raw) }
+    ensures small { IfOk result (λ x. unsigned_abs x.mid ≤ 2 ^ 54) }
+    ensures first { refusal_of result ≡ limited kind.Load (i + 1) (2 ^ 54) load.now.raw }
+{
+    match narrow_within(&load.raw, 1 << 54) {
         Ok(mid) => Ok(Number { mid, rad: () }),
         Err(_) => Err(OutOfRange {
             kind: Quantity::Load,
@@ -88,7 +93,7 @@ pub(crate) fn fill_load(
         +ℤ settled_mid (spec.push_of nv rows.now dual.now forces.now i) 20)) }
 {
     for i in 0..nv {
-        let here = loaded(&free[i], &push(nv, rows, dual, forces, i), i)?;
+        let here = within_load(&load_of(&free[i], &push(nv, rows, dual, forces, i)), i)?;
         load.put(i, here);
     }
     Ok(())
