@@ -1,4 +1,5 @@
-// Worked by hand: one row at its optimum after one sweep, and no row.
+// Worked by hand: one row at its optimum after one sweep, no row, and refusals of the solver and of the
+// certificate.
 ghost use Rattle.std.specs.Prelude.{◌≡◌, ◌≤◌, length, IfOk, IsTrue};
 ghost use Rattle.mj_pgs.specs.Holding.{HasPlaces};
 
@@ -158,5 +159,22 @@ fn the_first_number_out_of_range_is_told(rt: HostRuntime) -> Result<(), Fail> {
     };
     let told = solution_of(rt.alloc(), Some(soft))?;
     assert!(rt; told.map(|f| f.ended) == Some(Err(force)));
+    Ok(())
+}
+
+#[test]
+fn a_certificate_out_of_range_is_told(rt: HostRuntime) -> Result<(), Fail> {
+    // the force 0 is the nearest one, and the parabola is back at 0 only after 2^52 raw
+    let slack = Line {
+        g: 1 << 26,
+        r: 1,
+        b: -(1 << 15),
+    };
+    let up = OutOfRange {
+        kind: Quantity::Box,
+        index: 7,
+    };
+    let told = solution_of(rt.alloc(), Some(slack))?;
+    assert!(rt; told.map(|f| f.ended) == Some(Err(up)));
     Ok(())
 }
