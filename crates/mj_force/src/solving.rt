@@ -7,6 +7,7 @@ ghost use Rattle.mj_optimum.specs.Shortfall.{bound2};
 ghost use Rattle.mj_optimum.specs.Stop.{stop_of};
 ghost use Rattle.mj_types.specs.Parts.{number_at};
 ghost use Rattle.mj_types.specs.Problems as problems;
+ghost use Rattle.mj_types.specs.Solved.{IsSolved};
 ghost use Rattle.mj_types.specs.StepValues.{dual_values};
 ghost use Rattle.mj_pgs.specs.Holding.{HasPlaces, HaveSamePlaces};
 ghost use Rattle.mj_force.specs.Enclosures as spec;
@@ -16,14 +17,15 @@ use mj_cert::certify;
 use mj_pgs::solve;
 use mj_types::{Cert, Dual, Forces, OutOfRange, Stop};
 
-/// Solves a dual by projected Gauss-Seidel (MuJoCo documentation, Computation) and certifies the forces
-/// that it leaves (the certificate is this project's own): twice their cost, a bound that twice the cost
-/// of no feasible rational force is below, both at 2^-88, and for each row the ends, at 2^-20, of a box
-/// that holds every feasible rational force that costs no more. `tolerance` is at 2^-32; the sweeps end
-/// as `mj_pgs::solve` says. With no row there is no sweep, and cost and bound are 0.
+/// Solves a dual by projected Gauss-Seidel (MuJoCo documentation, Computation) and certifies the
+/// forces that it leaves (the certificate is this project's own): twice their cost, a bound that
+/// twice the cost of no feasible rational force is below, both at 2^-88, and for each row the ends,
+/// at 2^-20, of a box that holds every feasible rational force that costs no more. `tolerance` is at
+/// 2^-32; the sweeps end as `mj_pgs::solve` says. With no row there is no sweep, and cost and bound
+/// are 0.
 ///
-/// It refuses at the first number out of range, of the sweeps and then of the certificate. The lists of
-/// `forces` and `cert` keep their lengths.
+/// It refuses at the first number out of range, of the sweeps and then of the certificate. The lists
+/// of `forces` and `cert` keep their lengths.
 pub fn enclose(
     dual: &Dual,
     iterations: u32,
@@ -49,6 +51,7 @@ pub fn enclose(
         ≡ stop_of (dual_values dual.now).problem tolerance.mid iterations) }
     ensures forces { IfOk result (λ _. problems.forces forces.new
         ≡ spec.force_of (dual_values dual.now).problem tolerance.mid iterations) }
+    ensures solved { IfOk result (λ _. IsSolved dual.now forces.new) }
     ensures cost { IfOk result (λ _. cert.new.cost2
         ≡ costs.cost (dual_values dual.now).problem
         (spec.force_of (dual_values dual.now).problem tolerance.mid iterations) (pos 1)) }

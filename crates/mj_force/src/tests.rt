@@ -1,5 +1,5 @@
-// Worked by hand: one row at its optimum after one sweep, no row, and refusals of the solver and of the
-// certificate.
+// Worked by hand: one row at its optimum after one sweep, no row, and refusals of the solver and of
+// the certificate.
 ghost use Rattle.std.specs.Prelude.{◌≡◌, ◌≤◌, length, IfOk, IsTrue};
 ghost use Rattle.mj_pgs.specs.Holding.{HasPlaces};
 
