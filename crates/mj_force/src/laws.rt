@@ -20,8 +20,8 @@ pub fn duals_are_lawful()
     ensures zero { (d : Dual) → HoldsZero (dual_values d).problem }
 {}
 
-/// The forces after the sweeps are feasible, no feasible rational force costs less than the bound, and
-/// each that costs no more than they do is within the box.
+/// The forces after the sweeps are feasible, no feasible rational force costs less than the bound,
+/// and each that costs no more than they do is within the box.
 pub fn forces_are_enclosed()
     ensures { (p : Problem) (tolerance : ℤ) (limit : ℕ) → IsRegular p → HoldsZero p
         → IsEnclosed p (force_of p tolerance limit) (bound2 p (force_of p tolerance limit))

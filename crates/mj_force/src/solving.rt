@@ -17,14 +17,15 @@ use mj_cert::certify;
 use mj_pgs::solve;
 use mj_types::{Cert, Dual, Forces, OutOfRange, Stop};
 
-/// Solves a dual by projected Gauss-Seidel (MuJoCo documentation, Computation) and certifies the forces
-/// that it leaves (the certificate is this project's own): twice their cost, a bound that twice the cost
-/// of no feasible rational force is below, both at 2^-88, and for each row the ends, at 2^-20, of a box
-/// that holds every feasible rational force that costs no more. `tolerance` is at 2^-32; the sweeps end
-/// as `mj_pgs::solve` says. With no row there is no sweep, and cost and bound are 0.
+/// Solves a dual by projected Gauss-Seidel (MuJoCo documentation, Computation) and certifies the
+/// forces that it leaves (the certificate is this project's own): twice their cost, a bound that
+/// twice the cost of no feasible rational force is below, both at 2^-88, and for each row the ends,
+/// at 2^-20, of a box that holds every feasible rational force that costs no more. `tolerance` is at
+/// 2^-32; the sweeps end as `mj_pgs::solve` says. With no row there is no sweep, and cost and bound
+/// are 0.
 ///
-/// It refuses at the first number out of range, of the sweeps and then of the certificate. The lists of
-/// `forces` and `cert` keep their lengths.
+/// It refuses at the first number out of range, of the sweeps and then of the certificate. The lists
+/// of `forces` and `cert` keep their lengths.
 pub fn enclose(
     dual: &Dual,
     iterations: u32,

@@ -1,4 +1,5 @@
-// Worked by hand: one row at its optimum after one sweep, and no row.
+// Worked by hand: one row at its optimum after one sweep, no row, and refusals of the solver and of
+// the certificate.
 ghost use Rattle.std.specs.Prelude.{◌≡◌, ◌≤◌, length, IfOk, IsTrue};
 ghost use Rattle.mj_pgs.specs.Holding.{HasPlaces};
 
@@ -76,9 +77,9 @@ fn fits(dual: &Dual, forces: &Forces) -> bool
         && dual.m <= forces.used.len()
 }
 
-// What was found: how it ended, the force, the cost, the bound and the ends of the box.
+// How a run ended, the force, the cost, the bound and the ends of the box.
 #[derive(Clone, Copy, PartialEq)]
-struct Found {
+struct Solution {
     ended: Result<Stop, OutOfRange>,
     force: i64,
     cost2: i128,
@@ -92,7 +93,7 @@ fn first(list: &Array<Number<(), 20>>) -> i64 {
     if list.len() == 0 { 0 } else { list.at(0).mid }
 }
 
-fn found(alloc: Global, line: Option<Line>) -> Result<Option<Found>, Fail> {
+fn solution_of(alloc: Global, line: Option<Line>) -> Result<Option<Solution>, Fail> {
     let dual = dual_of(alloc, line)?;
     let mut forces = Forces::with_room(alloc, 1, 1)?;
     let mut cert = no_certificate(alloc)?;
@@ -101,7 +102,7 @@ fn found(alloc: Global, line: Option<Line>) -> Result<Option<Found>, Fail> {
     }
     let tolerance = Number { mid: 43, rad: () };
     let ended = enclose(&dual, 100, tolerance, &mut forces, &mut cert);
-    Ok(Some(Found {
+    Ok(Some(Solution {
         ended,
         force: first(&forces.f),
         cost2: cert.cost2,
@@ -118,7 +119,7 @@ fn one_row_comes_to_rest_and_is_enclosed(rt: HostRuntime) -> Result<(), Fail> {
         r: 1 << 48,
         b: -(1 << 32),
     };
-    let want = Found {
+    let want = Solution {
         ended: Ok(Stop::Tolerance(2)),
         force: 524_288,
         cost2: -(1 << 87),
@@ -126,13 +127,13 @@ fn one_row_comes_to_rest_and_is_enclosed(rt: HostRuntime) -> Result<(), Fail> {
         lo: 524_288,
         hi: 524_288,
     };
-    assert!(rt; found(rt.alloc(), Some(pressed))? == Some(want));
+    assert!(rt; solution_of(rt.alloc(), Some(pressed))? == Some(want));
     Ok(())
 }
 
 #[test]
 fn no_row_costs_nothing(rt: HostRuntime) -> Result<(), Fail> {
-    let want = Found {
+    let want = Solution {
         ended: Ok(Stop::NoRows),
         force: 0,
         cost2: 0,
@@ -140,7 +141,7 @@ fn no_row_costs_nothing(rt: HostRuntime) -> Result<(), Fail> {
         lo: 1,
         hi: 1,
     };
-    assert!(rt; found(rt.alloc(), None)? == Some(want));
+    assert!(rt; solution_of(rt.alloc(), None)? == Some(want));
     Ok(())
 }
 
@@ -156,7 +157,24 @@ fn the_first_number_out_of_range_is_told(rt: HostRuntime) -> Result<(), Fail> {
         kind: Quantity::Force,
         index: 7,
     };
-    let told = found(rt.alloc(), Some(soft))?;
+    let told = solution_of(rt.alloc(), Some(soft))?;
     assert!(rt; told.map(|f| f.ended) == Some(Err(force)));
+    Ok(())
+}
+
+#[test]
+fn a_certificate_out_of_range_is_told(rt: HostRuntime) -> Result<(), Fail> {
+    // the force 0 is the nearest one, and the parabola is back at 0 only after 2^52 raw
+    let slack = Line {
+        g: 1 << 26,
+        r: 1,
+        b: -(1 << 15),
+    };
+    let up = OutOfRange {
+        kind: Quantity::Box,
+        index: 7,
+    };
+    let told = solution_of(rt.alloc(), Some(slack))?;
+    assert!(rt; told.map(|f| f.ended) == Some(Err(up)));
     Ok(())
 }

@@ -1,8 +1,8 @@
 -- What holds of a problem holds of each that has the same rows.
-use Rattle.std.proofs.Common.{◌≡◌, ℕ, ◌<◌, ℤ, pos, ◌*ℤ◌, ◌<ℤ◌, ◌≤ℤ◌, Option, sym, subst}
+use Rattle.std.proofs.Common.{ℕ, ◌<◌, ℤ, pos, ◌*ℤ◌, ◌<ℤ◌, ◌≤ℤ◌, Option, sym, subst}
 use Rattle.mj_optimum.specs.Problem.{IsRegular, Problem}
 use Rattle.mj_optimum.specs.Cost.{cost}
-use Rattle.mj_optimum.specs.Feasible.{HoldsZero, IsAbove, IsBelow, IsFeasible}
+use Rattle.mj_optimum.specs.Feasible.{IsAbove, IsBelow, IsFeasible}
 use Rattle.mj_optimum.specs.Enclosure.{BoundHolds, BoxHolds}
 use Rattle.mj_own.specs.Agreement.{HaveSameRows}
 use Rattle.mj_own.proofs.SweepLaws.{cost-same, row-over, turned}

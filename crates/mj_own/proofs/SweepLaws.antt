@@ -1,7 +1,6 @@
 -- The cost and the sweeps of two problems that have the same rows.
 use Rattle.std.proofs.Common.{◌≡◌, ℕ, zero, suc, ◌^◌, ◌==◌, ◌<◌, ◌≤◌, ℤ, pos, ◌+ℤ◌, ◌-ℤ◌, ◌*ℤ◌, cond, Option, Some, None, refl, sym, ap, ap₂, ◌∙◌, arith}
 use Rattle.std.specs.Prelude.{int_le}
-use Rattle.fx_whole.specs.First.{first_to}
 use Rattle.fx_whole.specs.Sums.{sum_to}
 use Rattle.fx_whole.proofs.FirstLaws.{first_ext}
 use Rattle.mj_optimum.specs.Problem.{Problem}

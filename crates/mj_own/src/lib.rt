@@ -1,5 +1,5 @@
-//! Two problems are one where they agree in their rows and dofs: what a problem holds past these counts
-//! for nothing.
+//! Two problems are one where they agree in their rows and dofs: what a problem holds past these
+//! counts for nothing.
 #![tactic(auto)]
 
 pub mod laws;
