@@ -1,1 +1,2 @@
 pub mod ConstraintLaws
+pub mod ImpedanceLaws

@@ -3,4 +3,4 @@
 
 pub mod laws;
 
-pub use laws::constraints_are_lawful;
+pub use laws::{constraints_are_lawful, impedance_lies_between};
