@@ -3,4 +3,4 @@
 
 pub mod laws;
 
-pub use laws::{constraints_are_lawful, impedance_lies_between};
+pub use laws::{constraints_are_lawful, impedance_lies_between, state_duals_are_lawful};
