@@ -1,6 +1,5 @@
 -- Each constraint of each state of each model is lawful.
-use Rattle.std.proofs.Common.{◌≡◌, ℕ, ◌+◌, ◌-◌, ◌^◌, ◌<◌, Bool, true, cond, ℤ, pos, ◌*ℤ◌, neg_ℤ, ◌<ℤ◌, ◌≤ℤ◌, List, [], ◌∷◌, ◌++◌, length, Option, None, Some, sym, ap, subst, arith}
-use Rattle.std.specs.Prelude.{int_lt}
+use Rattle.std.proofs.Common.{◌≡◌, ℕ, ◌+◌, ◌-◌, ◌^◌, ◌<◌, Bool, true, cond, ℤ, pos, ◌*ℤ◌, neg_ℤ, ◌<ℤ◌, ◌≤ℤ◌, List, [], ◌∷◌, length, Option, None, Some, subst, arith}
 use Rattle.std.specs.List.{All}
 use Rattle.std.proofs.lemmas.Bool.{cond_both}
 use Rattle.std.proofs.lemmas.Int.{ints}
@@ -12,7 +11,6 @@ use Rattle.fx_vec.specs.Vectors.{Triple}
 use Rattle.mj_optimum.proofs.Tests.{int_lt_true}
 use Rattle.mj_types.specs.declared.carriers.Contact.{Contact}
 use Rattle.mj_types.specs.declared.model.Model.{Model}
-use Rattle.mj_types.specs.declared.parts.Geom.{Geom}
 use Rattle.mj_types.specs.declared.parts.Soft.{Soft}
 use Rattle.mj_types.specs.declared.rows.Source.{Source}
 use Rattle.mj_types.specs.declared.state.State.{State}
@@ -22,8 +20,8 @@ use Rattle.mj_types.specs.Placed.{Placing}
 use Rattle.mj_touch.specs.Meetings.{Meeting, Meetings}
 use Rattle.mj_touch.specs.Pairs.{meetings}
 use Rattle.mj_contact.specs.Filter.{is_tested, is_turned}
-use Rattle.mj_contact.specs.Lists.{contact_of, listed, all_listed, shape_at, margin, found_in_order, found_turned, found, found_with_later, contact_list}
-use Rattle.mj_rows.specs.Constraint.{Constraint, pushing}
+use Rattle.mj_contact.specs.Lists.{contact_of, listed, shape_at, margin, found_in_order, found_turned, found, found_with_later, contact_list}
+use Rattle.mj_rows.specs.Constraint.{pushing}
 use Rattle.mj_rows.specs.Constraints.{contact, no_contact, all_equalities, all_frictions, all_joint_limits, all_tendon_limits, all_edges, constraints}
 use Rattle.mj_rows.specs.Edges.{edge_of, edge_count, first_edge, edges}
 use Rattle.mj_rows.specs.Joints.{has_friction, most_friction, equality_of, friction_of, frictions}

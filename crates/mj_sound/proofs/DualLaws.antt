@@ -1,5 +1,5 @@
 -- The dual of lawful constraints is regular and holds the force 0.
-use Rattle.std.proofs.Common.{◌≡◌, ℕ, ◌^◌, ◌<◌, false, ℤ, pos, ◌<ℤ◌, ◌≤ℤ◌, List, length, None, refl, sym, subst, arith}
+use Rattle.std.proofs.Common.{◌≡◌, ℕ, ◌^◌, ◌<◌, false, ℤ, pos, ◌<ℤ◌, ◌≤ℤ◌, List, length, None, sym, subst, arith}
 use Rattle.std.specs.List.{All}
 use Rattle.std.proofs.lemmas.Bool.{not-true}
 use Rattle.std.proofs.lemmas.Int.{ints}
@@ -66,9 +66,9 @@ module _ (y : Dynamics) (cs : List Constraint) (all : All IsLawful cs) where
   pub dual-zero : HoldsZero (dual_of y cs).problem
   dual-zero = record {
     above = λ k h. subst (λ o. IsAbove o (pos 0) (pos 1)) (sym (below-within None count (λ i. (entry_at_place y cs (place i)).low) k h))
-    (entry-above y (constraint cs (place k)) (lawful-at k h));
+        (entry-above y (constraint cs (place k)) (lawful-at k h));
     below = λ k h. subst (λ o. IsBelow o (pos 0) (pos 1)) (sym (below-within None count (λ i. (entry_at_place y cs (place i)).high) k h))
-    (entry-below y (constraint cs (place k)) (lawful-at k h));
+        (entry-below y (constraint cs (place k)) (lawful-at k h));
   }
 
 -- ---- of each state

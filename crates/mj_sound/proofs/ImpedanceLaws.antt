@@ -1,12 +1,12 @@
 -- The impedance lies between dmin and dmax, whatever the violation is: each share that it is made of is from 0 to 1.
-use Rattle.std.proofs.Common.{◌^◌, ℕ, zero, suc, ℤ, pos, ◌-ℤ◌, ◌<ℤ◌, ◌≤ℤ◌, unsigned_abs, refl, arith}
+use Rattle.std.proofs.Common.{ℕ, zero, suc, ℤ, pos, ◌-ℤ◌, ◌<ℤ◌, ◌≤ℤ◌, unsigned_abs, refl, arith}
 use Rattle.std.specs.Prelude.{int_le}
 use Rattle.std.proofs.lemmas.Bool.{cond_both}
 use Rattle.std.proofs.lemmas.Int.{ints, clamps}
 use Rattle.mj_optimum.proofs.Tests.{int_le_true, int_le_false}
 use Rattle.mj_types.specs.declared.parts.Soft.{Soft}
 use Rattle.mj_types.specs.Lawful.{IsSoft}
-use Rattle.mj_imp.specs.Impedance.{one, times, over, pw, depth, to_midpoint, past_midpoint, sigmoid, impedance, LiesBetween}
+use Rattle.mj_imp.specs.Impedance.{one, over, pw, depth, to_midpoint, past_midpoint, sigmoid, impedance, LiesBetween}
 use Rattle.mj_imp.proofs.ShareLaws.{over_between, over_nonneg, times_between, between_both}
 
 abbrev IsShare : ℤ → Type 0
