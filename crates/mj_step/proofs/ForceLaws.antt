@@ -1,5 +1,5 @@
 -- The forces and the certificate that a report holds are those of the state.
-use Rattle.std.proofs.Common.{◌≡◌, ℕ, ◌^◌, ◌<◌, ◌≤◌, ℤ, pos, unsigned_abs, List, sym, ap, ◌∙◌, subst, arith}
+use Rattle.std.proofs.Common.{◌≡◌, ℕ, ◌^◌, ◌<◌, ◌≤◌, ℤ, pos, unsigned_abs, List, ap, ◌∙◌, subst, arith}
 use Rattle.mj_force.specs.Enclosures.{force_of}
 use Rattle.mj_optimum.specs.Box.{lo, hi}
 use Rattle.mj_optimum.specs.Cost.{cost}

@@ -1,3 +1,4 @@
+pub mod CertifiedLaws
 pub mod CoverLaws
 pub mod ForceLaws
 pub mod PushLaws

@@ -1,5 +1,5 @@
 -- What pushes on the dofs: the Jacobians of the dual's rows are found in the list of rows, each in its range.
-use Rattle.std.proofs.Common.{◌≡◌, ℕ, suc, ◌+◌, ◌-◌, ◌*◌, ◌^◌, ◌<◌, ◌≤◌, ℤ, pos, ◌+ℤ◌, ◌*ℤ◌, unsigned_abs, List, length, Option, None, refl, sym, ap, ap₂, ◌∙◌, subst, arith, mul-le-mul_right}
+use Rattle.std.proofs.Common.{◌≡◌, ℕ, suc, ◌+◌, ◌-◌, ◌*◌, ◌^◌, ◌<◌, ◌≤◌, ℤ, pos, ◌+ℤ◌, ◌*ℤ◌, unsigned_abs, List, length, None, refl, sym, ap, ap₂, ◌∙◌, subst, arith, mul-le-mul_right}
 use Rattle.fx_whole.specs.Counting.{count_to}
 use Rattle.fx_whole.specs.Sums.{sum_to}
 use Rattle.fx_whole.proofs.EntryLaws.{below-within, below-is}
@@ -21,7 +21,7 @@ use Rattle.mj_types.specs.StepValues.{DualValues, dual_values}
 use Rattle.mj_factor.proofs.RangeLaws.{limited_within}
 use Rattle.mj_contact.specs.Lists.{contacts_fault}
 use Rattle.mj_kin.specs.Placings.{placing}
-use Rattle.mj_rows.specs.Constraint.{Constraint, violation_fault, levers_fault, jacobian_fault, row_fault}
+use Rattle.mj_rows.specs.Constraint.{Constraint, row_fault}
 use Rattle.mj_rows.specs.Constraints.{constraints_fault}
 use Rattle.mj_dual.specs.Assembly as assembly
 use Rattle.mj_dual.specs.Assembly.{constraint, constraint_fault, is_active, dual_of, assembly_fault}

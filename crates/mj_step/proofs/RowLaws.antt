@@ -1,6 +1,6 @@
 -- The rows and the dual that an assembly gives are those of the state.
-use Rattle.std.proofs.Common.{◌≡◌, ℕ, ◌<◌, ℤ, pos, List, length, Option, refl, sym, ap, ◌∙◌, subst}
-use Rattle.mj_contact.specs.Lists.{contact_list, contacts_fault}
+use Rattle.std.proofs.Common.{◌≡◌, ℕ, ℤ, List, refl, ap, ◌∙◌, subst}
+use Rattle.mj_contact.specs.Lists.{contact_list}
 use Rattle.mj_dual.specs.Assembly.{row_list, dual_of, assembly_fault, HasJacobians}
 use Rattle.mj_dual.specs.Reductions.{Dynamics, AreSame, dynamics}
 use Rattle.mj_dual.proofs.ReadLaws.{row_list-reads, dual_of-reads, assembly_fault-reads}
@@ -14,14 +14,13 @@ use Rattle.mj_types.specs.declared.carriers.Factor.{Factor}
 use Rattle.mj_types.specs.declared.carriers.Frames.{Frames}
 use Rattle.mj_types.specs.declared.dual.Dual.{Dual}
 use Rattle.mj_types.specs.declared.model.Model.{Model}
-use Rattle.mj_types.specs.declared.range.OutOfRange.{OutOfRange}
 use Rattle.mj_types.specs.declared.rows.Rows.{Rows}
 use Rattle.mj_types.specs.declared.state.State.{State}
 use Rattle.mj_types.specs.Control.{Control}
 use Rattle.mj_types.specs.Parts.{number_at}
 use Rattle.mj_types.specs.Placed.{Placing, placing_of}
 use Rattle.mj_types.specs.StepValues.{active_count, dual_values}
-use Rattle.mj_step.specs.Steps.{smooth, tendon_lengths, constraints_at, dynamics_of, rows_at, dual_at}
+use Rattle.mj_step.specs.Steps.{smooth, constraints_at, dynamics_of, rows_at, dual_at}
 use Rattle.mj_step.specs.Workspace.{HasFrames, HasApplied, HasFactor, HasRows}
 
 -- the constraints that carriers hold are the state's

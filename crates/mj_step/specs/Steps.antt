@@ -5,7 +5,6 @@ use Rattle.fx_whole.specs.First.{or_first, first_to}
 use Rattle.fx_whole.specs.Sums.{sum_to}
 use Rattle.fx_num.specs.Settled.{settled_mid}
 use Rattle.fx_near.specs.Widths.{settled_radius}
-use Rattle.mj_optimum.specs.declared.stop.Stop.{Stop}
 use Rattle.mj_optimum.specs.Box.{lo, hi}
 use Rattle.mj_optimum.specs.Cost.{cost}
 use Rattle.mj_optimum.specs.Problem.{Problem}

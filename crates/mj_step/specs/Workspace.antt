@@ -32,7 +32,7 @@ use Rattle.mj_factor.specs.Stored.{entry, IsFactor}
 use Rattle.mj_dual.specs.Assembly.{HasJacobians}
 use Rattle.mj_euler.specs.Written.{StateRoom}
 use Rattle.mj_step.specs.declared.work.Work.{Work}
-use Rattle.mj_step.specs.Steps.{mass_of, mass_radius_of, bias_of, bias_radius_of, free_load, smooth, tendon_lengths, constraints_at, rows_at, dual_at, problem_at, force_at, step_values, load}
+use Rattle.mj_step.specs.Steps.{mass_of, mass_radius_of, bias_of, bias_radius_of, tendon_lengths, constraints_at, rows_at, dual_at, problem_at, force_at, step_values}
 
 pub record MadeFor (m : Model) (w : Work) : Type 0 where
   pub frames : FramesRoom m w.frames

@@ -8,5 +8,5 @@ mod report;
 mod tests;
 pub mod work;
 
-pub use laws::steps_are_covered;
+pub use laws::{steps_are_certified, steps_are_covered};
 pub use work::Work;

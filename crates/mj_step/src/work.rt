@@ -30,8 +30,8 @@ use mj_inertia::{composites, mass_matrix};
 use mj_kin::frames;
 use mj_passive::applied;
 use mj_types::{
-    Applied, Bias, Composite, Contacts, Dual, Factor, Frames, Mass, Model, NoMemory, OutOfRange, Rows,
-    State, StepReport,
+    Applied, Bias, Composite, Contacts, Dual, Factor, Frames, Mass, Model, NoMemory, OutOfRange,
+    Rows, State, StepReport,
 };
 use std::alloc::Global;
 

@@ -1,4 +1,4 @@
-use Rattle.std.proofs.Common.{ℕ, ◌+◌, ◌^◌, ◌+ℤ◌, arith}
+use Rattle.std.proofs.Common.{ℕ, ◌+◌, ◌^◌, ℤ, ◌+ℤ◌, ap, ◌∙◌, arith}
 use Rattle.std.proofs.lemmas.Result.{err_from_is_err_and}
 use Rattle.fx_whole.proofs.FirstLaws.{stop_here}
 use Rattle.fx_num.specs.Settled.{settled_mid}
@@ -15,4 +15,6 @@ returns-in_err-here-clause-first c =
     rw (r.1, r.2)
     (stop_here c.loop-i.i a.nv
     (λ (k : ℕ). limited kind.Load (k + 1) (2 ^ 54) (number_at a.free.now k +ℤ settled_mid (push_of a.nv a.rows.now a.dual.now a.forces.now k) 20))
-    _ (omega arith) c.loop-i.invariant.passed c.in_err-here.ensures.first)
+    _ (omega arith) c.loop-i.invariant.passed
+    (c.in_err-here.ensures.first
+    ∙ ap (limited kind.Load (c.loop-i.i + 1) (2 ^ 54)) (c.load_of.ensures ∙ ap (λ (z : ℤ). number_at a.free.now c.loop-i.i +ℤ settled_mid z 20) c.push.ensures.value)))

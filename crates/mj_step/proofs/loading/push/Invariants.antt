@@ -1,4 +1,4 @@
-use Rattle.std.proofs.Common.{◌≡◌, ℕ, ◌-◌, ◌*◌, ◌^◌, ◌≤◌, ◌*ℤ◌, unsigned_abs}
+use Rattle.std.proofs.Common.{◌≡◌, ◌-◌, ◌*◌, ◌^◌, ◌≤◌, ◌*ℤ◌, unsigned_abs}
 use Rattle.fx_whole.specs.Sums.{sum_to}
 use Rattle.mj_types.specs.Duals.{entry_at}
 use Rattle.mj_types.specs.Problems.{place, forces}

@@ -6,8 +6,8 @@ use Rattle.mj_types.specs.Parts.{number_at}
 use Rattle.mj_step.specs.Steps.{step_fault}
 use Rattle.mj_step.proofs.work.Work.compute.Goals as goal
 
-pub push_constraints-requires-in_range : goal.push_constraints-requires-in_range
-push_constraints-requires-in_range c = sym c.in_ok-constrain.ensures.first
+pub push_constraints-requires-clause-in_range : goal.push_constraints-requires-clause-in_range
+push_constraints-requires-clause-in_range c = sym c.in_ok-constrain.ensures.first
 
 pub returns-in_err-weigh-clause-first : goal.returns-in_err-weigh-clause-first
 unfolding step_fault

@@ -1,4 +1,4 @@
-use Rattle.std.proofs.Common.{◌≡◌, ap, ◌∙◌}
+use Rattle.std.proofs.Common.{ap, ◌∙◌}
 use Rattle.std.proofs.lemmas.Result.{err_from_is_err_and}
 use Rattle.fx_whole.proofs.FirstLaws.{stop_first, pass_first}
 use Rattle.mj_contact.specs.Lists.{contacts_fault}
@@ -7,8 +7,8 @@ use Rattle.mj_step.specs.Steps.{rows_fault}
 use Rattle.mj_step.proofs.RowLaws.{constraints-are, same_dynamics, assembly_fault-is, rows-are}
 use Rattle.mj_step.proofs.work.Work.constrain.Goals as goal
 
-pub contacts-requires-units : goal.contacts-requires-units
-contacts-requires-units c = record { each = c.requires.frames.units.each }
+pub contacts-requires-clause-units : goal.contacts-requires-clause-units
+contacts-requires-clause-units c = record { each = c.requires.frames.units.each }
 
 pub returns-in_err-contacts-clause-first : goal.returns-in_err-contacts-clause-first
 unfolding rows_fault

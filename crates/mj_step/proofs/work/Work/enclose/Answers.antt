@@ -1,12 +1,8 @@
-use Rattle.std.proofs.Common.{◌≡◌, ℕ, ℤ, ◌<◌, sym, ap, ◌∙◌, arith}
+use Rattle.std.proofs.Common.{ap, ◌∙◌}
 use Rattle.std.proofs.lemmas.Result.{err_from_is_err_and}
-use Rattle.mj_force.specs.Enclosures.{force_of, enclosure_fault}
-use Rattle.mj_optimum.specs.Box.{lo, hi}
-use Rattle.mj_optimum.specs.Cost.{cost}
-use Rattle.mj_optimum.specs.Shortfall.{bound2}
-use Rattle.mj_optimum.specs.Stop.{stop_of}
+use Rattle.mj_force.specs.Enclosures.{enclosure_fault}
 use Rattle.mj_types.specs.StepValues.{DualValues}
-use Rattle.mj_step.specs.Steps.{force_at, force_fault}
+use Rattle.mj_step.specs.Steps.{force_fault}
 use Rattle.mj_step.proofs.ForceLaws.{forces-are}
 use Rattle.mj_step.proofs.work.Work.enclose.Goals as goal
 

@@ -1,4 +1,4 @@
-use Rattle.std.proofs.Common.{rules, SFits, ◌≡◌, ℕ, ◌<◌, ℤ, pos, List, length, slice_index_or, sym, ap, ◌∙◌}
+use Rattle.std.proofs.Common.{rules, SFits, ◌≡◌, ℕ, ℤ, pos, length, slice_index_or, sym, ap, ◌∙◌}
 use Rattle.std.specs.Int.{w64, w128}
 use Rattle.std.proofs.lemmas.Int.{to_z-of_z}
 use Rattle.fx_whole.specs.Entries.{below}
@@ -6,7 +6,6 @@ use Rattle.mj_dual.proofs.EntryLaws.{same_below}
 use Rattle.mj_factor.specs.Residuals.{greatest_to}
 use Rattle.mj_factor.proofs.ReadLaws.{greatest-reads}
 use Rattle.mj_optimum.specs.Box.{lo, hi}
-use Rattle.mj_types.specs.declared.rows.Row.{Row}
 use Rattle.mj_types.specs.Masses.{mass_radius_at, no_near}
 use Rattle.mj_types.specs.Parts.{number_at}
 use Rattle.mj_types.specs.Problems.{forces}

@@ -1,4 +1,4 @@
-use Rattle.std.proofs.Common.{◌≡◌, ℕ, ◌+◌, ◌^◌, ap, arith, ◌<◌, ◌∙◌}
+use Rattle.std.proofs.Common.{◌+◌, ◌^◌, ap, arith, ◌∙◌}
 use Rattle.std.proofs.lemmas.Result.{err_from_is_err_and}
 use Rattle.fx_whole.proofs.FirstLaws.{first_ext}
 use Rattle.mj_types.specs.declared.range.Quantity.TheVariants as kind
@@ -8,8 +8,8 @@ use Rattle.mj_step.specs.Steps.{load, load_fault}
 use Rattle.mj_step.proofs.PushLaws.{can_push, loads, load-whole}
 use Rattle.mj_step.proofs.work.Work.push_constraints.Goals as goal
 
-pub fill_load-requires-can : goal.fill_load-requires-can
-fill_load-requires-can c =
+pub fill_load-requires-clause-can : goal.fill_load-requires-clause-can
+fill_load-requires-clause-can c =
     let w = c.args.self.now in
     can_push c.args.model.now c.args.state.now c.args.controls.now w.rows w.dual c.requires.rows w.report.forces c.requires.in_range
     (omega (arith, c.requires.made.report.forces.f, c.requires.made.dual.place)) c.requires.forces.force c.requires.forces.small
