@@ -1,5 +1,5 @@
 -- The forces of a dual and their certificate, by the dual's own rows.
-use Rattle.std.proofs.Common.{◌≡◌, ℕ, ◌<◌, ℤ, pos, Option, Some, None, Result, Ok, Err, sym, ap, ◌∙◌}
+use Rattle.std.proofs.Common.{◌≡◌, ℕ, ◌<◌, ℤ, pos, Option, Some, Result, Ok, Err, ap, ◌∙◌}
 use Rattle.fx_whole.specs.First.{refusal_of}
 use Rattle.fx_whole.proofs.FirstLaws.{pass_first, stop_first}
 use Rattle.mj_optimum.specs.Problem.{IsRegular, Problem}

@@ -1,12 +1,10 @@
 -- The first number out of range in two problems that have the same rows, at the same places.
-use Rattle.std.proofs.Common.{◌≡◌, ℕ, suc, ◌+◌, ◌==◌, ◌<◌, ◌≤◌, ℤ, pos, cond, Option, Result, Ok, refl, ap, ap₂, ◌∙◌, arith}
+use Rattle.std.proofs.Common.{◌≡◌, ℕ, suc, ◌+◌, ◌==◌, ◌<◌, ℤ, pos, cond, Option, Result, Ok, ap, ap₂, ◌∙◌, arith}
 use Rattle.fx_whole.specs.First.{first_to, or_first}
 use Rattle.fx_whole.proofs.FirstLaws.{first_ext}
 use Rattle.mj_optimum.specs.Problem.{Problem}
 use Rattle.mj_optimum.specs.Cost.{reach}
-use Rattle.mj_optimum.specs.Box.{rise_down, rise_up}
-use Rattle.mj_optimum.specs.Limits.{box_limit, cost_limit, force_limit, pull_to, reach_limit, shortfall_limit, shortfall_to, weight_to, where_open}
-use Rattle.mj_optimum.specs.Stop.{stop_after}
+use Rattle.mj_optimum.specs.Limits.{box_limit, cost_limit, force_limit, reach_limit, shortfall_limit, where_open}
 use Rattle.mj_optimum.specs.Sweep.{after_update, iterate, pass, sweep, update}
 use Rattle.mj_optimum.specs.declared.stop.Stop.{Stop}
 use Rattle.mj_optimum.specs.declared.stop.Stop.TheVariants.{NoRows, Limit}

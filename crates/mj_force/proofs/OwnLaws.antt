@@ -1,5 +1,5 @@
 -- A dual's numbers of its own rows are a problem with the same rows, and a lawful one.
-use Rattle.std.proofs.Common.{◌≡◌, ℕ, ◌<◌, pos, None, refl, sym, ap, ◌∙◌}
+use Rattle.std.proofs.Common.{pos, None, refl, sym, ap, ◌∙◌}
 use Rattle.fx_whole.specs.Entries.{below}
 use Rattle.fx_whole.proofs.EntryLaws.{below-within}
 use Rattle.mj_optimum.specs.Problem.{IsRegular, Problem}
