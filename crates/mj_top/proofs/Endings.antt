@@ -15,7 +15,7 @@ use Rattle.mj_top.specs.Controls.{controls_at}
 use Rattle.mj_top.specs.Run.{end_of}
 use Rattle.mj_step.specs.Smooth.{is_smooth}
 use Rattle.mj_valid.specs.Judging.{told, judged_bytes}
-use Rattle.mj_top.specs.Words.{bad_place, model_of, step_count, tape_of}
+use Rattle.mj_words.specs.Words.{bad_place, model_of, step_count, tape_of}
 use Rattle.mj_top.specs.Outcome.{Outcome, IsOutcome, IsFileOutcome, IsWordsOutcome, words_refused, status_of, with_tape, with_tape_file, with_tape_name, with_model, model_refused, not_built, model_cap}
 use Rattle.mj_top.specs.Ends.{Answers, WritesNothing, HasCause, Completes, IsMeant, ReadRose, TapeRose, HasTapeCause, Ends, EndsOrMemory, unless_failed}
 

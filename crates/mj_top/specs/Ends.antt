@@ -6,7 +6,7 @@ use Rattle.mj_types.specs.declared.model.Model.{Model}
 use Rattle.mj_types.specs.declared.status.Status.{Status}
 use Rattle.mj_types.specs.declared.status.Status.TheVariants as status
 use Rattle.mj_valid.specs.Judging.{Accepted, accepted_of, judged_bytes}
-use Rattle.mj_top.specs.Words.{bad_place, model_of, tape_of}
+use Rattle.mj_words.specs.Words.{bad_place, model_of, tape_of}
 use Rattle.mj_top.specs.Outcome.{Outcome, IsOutcome, words_refused, model_cap}
 
 -- the status is the outcome's, and its whole text was written

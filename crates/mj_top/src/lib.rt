@@ -5,7 +5,7 @@ mod run;
 #[cfg(test)]
 mod tests;
 pub mod top;
-mod words;
+
 
 pub use top::run_words;
-pub use words::accepted_words_have_no_bad_place;
+pub use mj_words::accepted_words_have_no_bad_place;

@@ -2,7 +2,7 @@ use Rattle.std.proofs.Common.{◌≡◌, ◌∙◌, map, string_bytes, sym, ap, 
 use Rattle.mj_io.proofs.Faults.{Rose-after}
 use Rattle.mj_io.proofs.Growth.{Gives-held}
 use Rattle.mj_valid.specs.Judging.{judged_bytes}
-use Rattle.mj_top.specs.Words.{step_count, tape_of}
+use Rattle.mj_words.specs.Words.{step_count, tape_of}
 use Rattle.mj_top.specs.Outcome.{IsFileOutcome, IsOutcome, model_cap}
 use Rattle.mj_top.proofs.Endings.{answers-within, file_outcome-is, cause-from_tape, tape_cause-earlier}
 use Rattle.mj_top.proofs.top.run_accepted.Goals as goal

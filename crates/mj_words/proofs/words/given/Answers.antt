@@ -1,9 +1,9 @@
 use Rattle.std.proofs.Common.{◌≡◌, true, map, string_bytes, sym, ap, ◌∙◌, arith, cond, Some, None}
 use Rattle.std.proofs.lemmas.List.{length-map}
 use Rattle.std.specs.Str.{bytes_eq}
-use Rattle.mj_top.specs.Words.{name, value, value_count}
+use Rattle.mj_words.specs.Words.{name, value, value_count}
 use Rattle.fx_whole.proofs.FirstLaws.{first_here}
-use Rattle.mj_top.proofs.words.given.Goals as goal
+use Rattle.mj_words.proofs.words.given.Goals as goal
 
 pub returns-then-eq : goal.returns-then-eq
 returns-then-eq c =
