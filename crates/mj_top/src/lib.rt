@@ -1,7 +1,6 @@
 //! The top call.
 #![tactic(auto)]
 
-mod run;
 #[cfg(test)]
 mod tests;
 pub mod top;
