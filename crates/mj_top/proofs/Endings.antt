@@ -11,8 +11,8 @@ use Rattle.mj_types.specs.declared.status.Status.{Status}
 use Rattle.mj_types.specs.declared.status.Status.TheVariants as status
 use Rattle.mj_types.specs.declared.tape.TapeFault.{TapeFault}
 use Rattle.mj_tape.specs.Judging.{TapeValues}
-use Rattle.mj_top.specs.Controls.{controls_at}
-use Rattle.mj_top.specs.Run.{end_of}
+use Rattle.mj_run.specs.Controls.{controls_at}
+use Rattle.mj_run.specs.Run.{end_of}
 use Rattle.mj_step.specs.Smooth.{is_smooth}
 use Rattle.mj_valid.specs.Judging.{told, judged_bytes}
 use Rattle.mj_words.specs.Words.{bad_place, model_of, step_count, tape_of}

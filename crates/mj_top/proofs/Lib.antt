@@ -1,4 +1,2 @@
-pub mod ControlLaws
 pub mod Endings
 pub mod Served
-pub mod Steps

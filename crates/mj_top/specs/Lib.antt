@@ -1,4 +1,2 @@
-pub mod Controls
 pub mod Ends
 pub mod Outcome
-pub mod Run

@@ -12,9 +12,9 @@ use Rattle.mj_step.specs.Smooth.{is_smooth}
 use Rattle.mj_tape.specs.Judging.{TapeValues, tape_verdict}
 use Rattle.mj_trace.specs.Refusal.{words_refusal, model_refusal, tape_refusal}
 use Rattle.mj_valid.specs.Judging.{told, judged_bytes}
-use Rattle.mj_top.specs.Controls.{controls_at}
+use Rattle.mj_run.specs.Controls.{controls_at}
 use Rattle.mj_words.specs.Words.{bad_place, model_of, step_count, tape_of}
-use Rattle.mj_top.specs.Run.{end_of, trace_text}
+use Rattle.mj_run.specs.Run.{end_of, trace_text}
 
 -- an answer and a text
 pub record Outcome : Type 0 where

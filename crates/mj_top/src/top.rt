@@ -8,13 +8,13 @@ ghost use Rattle.mj_tape.specs.Judging.{tape_verdict};
 ghost use Rattle.mj_types.specs.States.{Fits};
 ghost use Rattle.mj_types.specs.Control.{Control};
 ghost use Rattle.mj_types.specs.declared.model.Model.{Model};
-ghost use Rattle.mj_top.specs.Controls.{tape_of as taped, Serves};
+ghost use Rattle.mj_run.specs.Controls.{tape_of as taped, Serves};
 ghost use Rattle.mj_words.specs.Words as command;
-ghost use Rattle.mj_top.specs.Run.{start, state_at};
+ghost use Rattle.mj_run.specs.Run.{start, state_at};
 ghost use Rattle.mj_top.specs.Outcome as spec;
 ghost use Rattle.mj_top.specs.Ends.{Answers, WritesNothing, HasCause, Completes, HasTapeCause, AreModel, IsMeant, Ends, EndsOrMemory, unless_failed};
 
-use crate::run::{Controls, Runner, send_run};
+use mj_run::{Controls, Runner, send_run};
 use mj_words::{bad_place, model_of, step_count, tape_of};
 use fx_list::Text;
 use mj_io::{Cabinet, CabinetFault, Failed, NoMemory, Page, Sink, finish};

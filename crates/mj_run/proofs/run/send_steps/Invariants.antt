@@ -3,9 +3,9 @@ use Rattle.fx_whole.specs.First.{first_to}
 use Rattle.mj_io.specs.Sent.{Sent}
 use Rattle.mj_step.specs.Workspace.{MadeFor}
 use Rattle.mj_types.specs.States.{Fits}
-use Rattle.mj_top.specs.Controls.{controls_at, tape_of}
-use Rattle.mj_top.specs.Run.{state_at, blocks_text, refusal_at}
-use Rattle.mj_top.proofs.run.send_steps.Given as goal
+use Rattle.mj_run.specs.Controls.{controls_at, tape_of}
+use Rattle.mj_run.specs.Run.{state_at, blocks_text, refusal_at}
+use Rattle.mj_run.proofs.run.send_steps.Given as goal
 
 abbrev pub invariant-loop-done : goal.invariant-loop-done
 invariant-loop-done g l =

@@ -5,11 +5,11 @@ use Rattle.mj_passive.specs.Forces.{AreControls}
 use Rattle.mj_types.specs.Control.{Control}
 use Rattle.mj_step.specs.Steps.{step_state, step_values, step_fault}
 use Rattle.mj_trace.specs.Block.{block_text}
-use Rattle.mj_top.specs.Controls.{controls_at, tape_of}
-use Rattle.mj_top.specs.Run.{state_at, block_at, blocks_text, done_of}
-use Rattle.mj_top.proofs.ControlLaws.{controls-lawful}
-use Rattle.mj_top.proofs.Steps.{whole, done-early, end-early, blocks-prefix, done-least, state-more, passed-more, refused-here, text-more}
-use Rattle.mj_top.proofs.run.send_steps.Goals as goal
+use Rattle.mj_run.specs.Controls.{controls_at, tape_of}
+use Rattle.mj_run.specs.Run.{state_at, block_at, blocks_text, done_of}
+use Rattle.mj_run.proofs.ControlLaws.{controls-lawful}
+use Rattle.mj_run.proofs.Steps.{whole, done-early, end-early, blocks-prefix, done-least, state-more, passed-more, refused-here, text-more}
+use Rattle.mj_run.proofs.run.send_steps.Goals as goal
 
 pub loop-done-init : goal.loop-done-init
 unfolding state_at

@@ -8,8 +8,8 @@ ghost use Rattle.mj_step.specs.Steps.{step_state, step_values, step_fault};
 ghost use Rattle.mj_step.specs.Workspace.{MadeFor};
 ghost use Rattle.mj_trace.specs.Block.{block_text};
 ghost use Rattle.mj_types.specs.States.{Fits};
-ghost use Rattle.mj_top.specs.Controls as spec;
-ghost use Rattle.mj_top.specs.Run.{start, end_of, done_blocks, trace_text};
+ghost use Rattle.mj_run.specs.Controls as spec;
+ghost use Rattle.mj_run.specs.Run.{start, end_of, done_blocks, trace_text};
 
 use fx_list::Array;
 use fx_num::{Fix, Number};
@@ -21,14 +21,14 @@ use std::alloc::Global;
 
 /// What drives a run: nothing, so that every control is 0, or a tape.
 #[derive(Drop)]
-pub(crate) enum Controls {
+pub enum Controls {
     Rest(Array<Fix<32>>),
     Taped(Tape),
 }
 
 impl Controls {
     /// Zeros for each motor of a model.
-    pub(crate) fn rest(alloc: Global, model: &Model) -> Result<Controls, NoMemory>
+    pub fn rest(alloc: Global, model: &Model) -> Result<Controls, NoMemory>
         ensures serves { IfOk result
             (λ c. (steps : ℕ) → spec.Serves c (length model.now.motors) steps) }
         ensures rest { IfOk result (λ c. spec.tape_of c ≡ None) }
@@ -62,16 +62,17 @@ fn record_of(tape: &Tape, k: usize) -> &[Fix<32>]
     &values[begin..begin + tape.width]
 }
 
-/// A run under way: its workspace, and the state that it has come to.
+/// A run under way: its workspace, and the state that it has come to. The fields are public so that
+/// contracts can name them.
 #[derive(Drop)]
-pub(crate) struct Runner {
-    work: Work,
-    state: State,
+pub struct Runner {
+    pub work: Work,
+    pub state: State,
 }
 
 impl Runner {
     /// The room of a model's runs, at their start.
-    pub(crate) fn new(alloc: Global, model: &Model) -> Result<Runner, NoMemory>
+    pub fn new(alloc: Global, model: &Model) -> Result<Runner, NoMemory>
         ensures made { IfOk result (λ r. MadeFor model.now r.work) }
         ensures fits { IfOk result (λ r. Fits model.now r.state) }
         ensures start { IfOk result (λ r. r.state ≡ start model.now) }
@@ -169,7 +170,7 @@ fn send_steps<S: Sink>(
 /// Runs the model for this many steps from its start and sends the trace: the header, a block for each
 /// step that is done, and the end, which is the answer. `Failed` where the writing stopped; what was
 /// sent is a prefix of the trace.
-pub(crate) fn send_run<S: Sink>(
+pub fn send_run<S: Sink>(
     sink: &mut S,
     page: &mut Page,
     model: &Model,

@@ -1,6 +1,6 @@
 use Rattle.std.proofs.Common.{arith, ap, length}
-use Rattle.mj_top.proofs.ControlLaws.{record-within}
-use Rattle.mj_top.proofs.run.record_of.Goals as goal
+use Rattle.mj_run.proofs.ControlLaws.{record-within}
+use Rattle.mj_run.proofs.run.record_of.Goals as goal
 
 pub overflow_mul-begin : goal.overflow_mul-begin
 overflow_mul-begin c =

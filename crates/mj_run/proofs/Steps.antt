@@ -13,7 +13,7 @@ use Rattle.mj_types.specs.declared.state.State.{State}
 use Rattle.mj_types.specs.Control.{Control}
 use Rattle.mj_step.specs.Steps.{step_state, step_values, step_fault}
 use Rattle.mj_trace.specs.Block.{block_text}
-use Rattle.mj_top.specs.Run.{state_at, block_at, blocks_text, refusal_at, done_of, end_of}
+use Rattle.mj_run.specs.Run.{state_at, block_at, blocks_text, refusal_at, done_of, end_of}
 
 -- where no row holds a fault, none is mapped
 mapped_none : {F G : Type 0} (n : ℕ) (f : ℕ → Option F) (g : ℕ → F → G) → first_to n f ≡ None → first_to n (λ k. option_map (g k) (f k)) ≡ None

@@ -1,9 +1,9 @@
 use Rattle.std.proofs.Common.{refl, sym, ap, ◌++◌, length}
 use Rattle.mj_io.proofs.Sent.{sent-then, sent-past}
-use Rattle.mj_top.specs.Controls.{controls_at, tape_of}
-use Rattle.mj_top.specs.Run.{done_blocks, end_of}
+use Rattle.mj_run.specs.Controls.{controls_at, tape_of}
+use Rattle.mj_run.specs.Run.{done_blocks, end_of}
 use Rattle.mj_trace.specs.Trace.{header_text, end_text}
-use Rattle.mj_top.proofs.run.send_run.Goals as goal
+use Rattle.mj_run.proofs.run.send_run.Goals as goal
 
 pub returns-clause-sent : goal.returns-clause-sent
 returns-clause-sent g c =

@@ -1,8 +1,8 @@
 use Rattle.std.proofs.Common.{◌*◌, ap, sym, subst, ◌∙◌, take, drop}
-use Rattle.mj_top.specs.declared.run.Controls.{Controls}
-use Rattle.mj_top.specs.Controls.{Serves}
-use Rattle.mj_top.proofs.ControlLaws.{taken-raws}
-use Rattle.mj_top.proofs.run.Controls.at.Goals as goal
+use Rattle.mj_run.specs.declared.run.Controls.{Controls}
+use Rattle.mj_run.specs.Controls.{Serves}
+use Rattle.mj_run.proofs.ControlLaws.{taken-raws}
+use Rattle.mj_run.proofs.run.Controls.at.Goals as goal
 
 pub returns-in-Taped : goal.returns-in-Taped
 returns-in-Taped c =

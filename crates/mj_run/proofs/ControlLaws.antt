@@ -8,9 +8,9 @@ use Rattle.mj_tape.specs.Judging.{raws}
 use Rattle.mj_types.specs.declared.model.Model.{Model}
 use Rattle.mj_types.specs.Control.{Control, control_limit, AreSmall}
 use Rattle.mj_types.specs.Parts.{plain}
-use Rattle.mj_top.specs.declared.run.Controls.{Controls}
-use Rattle.mj_top.specs.declared.run.Controls.TheVariants as controls
-use Rattle.mj_top.specs.Controls.{controls_at, tape_of, Serves}
+use Rattle.mj_run.specs.declared.run.Controls.{Controls}
+use Rattle.mj_run.specs.declared.run.Controls.TheVariants as controls
+use Rattle.mj_run.specs.Controls.{controls_at, tape_of, Serves}
 
 -- a record by raw numbers is the record
 pub taken-raws : (w n : ℕ) (xs : List Control) → map plain (take w (drop n (raws xs))) ≡ take w (drop n xs)

@@ -3,8 +3,8 @@ use Rattle.std.specs.Prelude.{◌≡◌, ℕ, ◌*◌, ◌<◌, ◌≤◌, pos, 
 use Rattle.mj_types.specs.Control.{Control}
 use Rattle.mj_types.specs.Parts.{plain}
 use Rattle.mj_tape.specs.Judging.{TapeValues, raws}
-use Rattle.mj_top.specs.declared.run.Controls.{Controls}
-use Rattle.mj_top.specs.declared.run.Controls.TheVariants as controls
+use Rattle.mj_run.specs.declared.run.Controls.{Controls}
+use Rattle.mj_run.specs.declared.run.Controls.TheVariants as controls
 
 -- the controls of `width` motors in the step after k others
 abbrev pub controls_at : ℕ → Option TapeValues → ℕ → List Control
