@@ -6,15 +6,16 @@ use Rattle.std.proofs.lemmas.Bool.{cases_Bool}
 use Rattle.std.proofs.lemmas.Bool.Decides.{nat_tests, Decides-ltb}
 use Rattle.std.proofs.lemmas.Slice.Eq.{bytes_eq-Decides}
 use Rattle.fx_whole.specs.First.{or_first, first_to}
+use Rattle.fx_whole.proofs.CountLaws.{count_to-below}
 use Rattle.fx_whole.proofs.FirstLaws.{or_both, first_none}
 use Rattle.mj_words.specs.declared.table.Command.{Command}
 use Rattle.mj_words.specs.declared.table.Command.TheVariants as command
 use Rattle.mj_words.specs.declared.table.Name.{Name}
 use Rattle.mj_words.specs.declared.table.Name.TheVariants as named
 use Rattle.mj_words.specs.Table.{command_named, text_of, all_names, rule, rule_of}
-use Rattle.mj_words.specs.Words.{word, name, value, name_count, value_count, count_to, command_of, fits, given, unless, bad_command, stood_before, bad_name, bad_names, value_missing, bad_value, bad_values, is_served, name_missing, past_end, bad_pairs, bad_place, name_place, value_place}
+use Rattle.mj_words.specs.Words.{word, name, value, name_count, value_count, command_of, fits, given, unless, bad_command, stood_before, bad_name, bad_names, value_missing, bad_value, bad_values, is_served, name_missing, past_end, bad_pairs, bad_place, name_place, value_place}
 use Rattle.mj_words.specs.Accepted.{AreAccepted, AcceptedHaveNoBadPlace}
-use Rattle.mj_words.proofs.Counts.{stand_within, stands_after}
+use Rattle.mj_words.proofs.Counts.{stand_within}
 
 -- ---- tests
 
@@ -148,7 +149,8 @@ none-bad words ok =
     let count : name_count words ≡ value_count words = counts-from_paired (length words) ok.paired in
     let e1 : bad_command words ≡ None = unless-none _ 1 (ap is_some ok.command) in
     let name_ok : (j : ℕ) → j < name_count words → bad_name takes words j ≡ None =
-    λ j l. let before = stands_after (name words) (name words j) (value_count words) j (omega (arith, l, count)) refl in
+    λ j l. let before = count_to-below j (value_count words) (λ i. bytes_eq (name words i) (name words j)) (omega (arith, l, count))
+    ((bytes_eq-Decides (name words j) (name words j)).1 refl) in
     let most = ok.often (name words j) in
     unless-none _ (name_place j) ((Decides-ltb (stood_before words j) (rule_of takes (name words j)).times).1 (omega (arith, before, most))) in
     let e2 : bad_names takes words ≡ None = (first_none (name_count words) (bad_name takes words)).1 name_ok in

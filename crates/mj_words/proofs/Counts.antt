@@ -1,12 +1,11 @@
 -- Laws of counted names.
 use Rattle.std.proofs.Common.{◌≡◌, ℕ, zero, suc, ◌+◌, ◌<◌, ◌≤◌, inl, inr, Bool, true, false, cond, List, refl, sym, ap, ◌∙◌, arith, subst}
 use Rattle.std.specs.Str.{bytes_eq}
-use Rattle.std.proofs.lemmas.Bool.{cases_lt}
 use Rattle.std.proofs.lemmas.Slice.Eq.{bytes_eq-Decides}
-use Rattle.mj_words.specs.Words.{count_to}
+use Rattle.fx_whole.specs.Counting.{count_to}
 
 -- one more is counted only where it may be
-counted : (c most : ℕ) (b : Bool) → (b ≡ true → c < most) → c ≤ most → c + cond b 1 0 ≤ most
+counted : (c most : ℕ) (b : Bool) → (b ≡ true → c < most) → c ≤ most → c + cond {A = ℕ} b 1 0 ≤ most
 counted c most true h low = let here = h refl in omega (arith, here)
 counted c most false h low = omega (arith, low)
 
@@ -20,15 +19,3 @@ stand_within names most text (suc n) h =
     counted (count_to n (λ j. bytes_eq (names j) text)) (most text) (bytes_eq (names n) text)
     (λ t. subst P ((bytes_eq-Decides (names n) text).0 t) (h n (omega arith)))
     (stand_within names most text n (λ j l. h j (omega (arith, l))))
-
--- what stands at j is one more than what stood before
-pub stands_after : (names : ℕ → List ℕ) (text : List ℕ) (n j : ℕ) → j < n → names j ≡ text
-    → count_to j (λ i. bytes_eq (names i) text) < count_to n (λ i. bytes_eq (names i) text)
-stands_after names text zero j l e = absurd (omega (arith, l))
-stands_after names text (suc n) j l e =
-    elim (cases_lt j n) [
-      | inl less ↦ (let before = stands_after names text n j less e in omega (arith, before))
-      | inr more ↦ (let s : j ≡ n = omega (arith, l, more) in
-          let t : bytes_eq (names n) text ≡ true = (bytes_eq-Decides (names n) text).1 (ap names (sym s) ∙ e) in
-          rw (s, t) (omega arith))
-    ]

@@ -1,10 +1,11 @@
 -- Which words are accepted, told without an order of judging.
 use Rattle.std.specs.Prelude.{◌≡◌, ◌↔◌, ℕ, ◌+◌, ◌*◌, ◌<◌, ◌≤◌, true, List, length, Some, None}
 use Rattle.std.specs.Str.{bytes_eq}
+use Rattle.fx_whole.specs.Counting.{count_to}
 use Rattle.mj_words.specs.declared.table.Command.{Command}
 use Rattle.mj_words.specs.declared.table.Name.{Name}
 use Rattle.mj_words.specs.Table.{command_named, text_of, rule, rule_of}
-use Rattle.mj_words.specs.Words.{word, name, value, value_count, count_to, fits, command_of, bad_place}
+use Rattle.mj_words.specs.Words.{word, name, value, value_count, fits, command_of, bad_place}
 
 -- how often a text stands in a name's place
 abbrev pub times_given : List (List ℕ) → List ℕ → ℕ

@@ -1,9 +1,10 @@
 -- The words after the program's name: a command, then pairs of a name and a value in any order.
 -- Which words are accepted, and else the first bad place, counted from 1. A format of this
 -- project's own.
-use Rattle.std.specs.Prelude.{ℕ, zero, suc, ◌+◌, ◌-◌, ◌*◌, ◌/◌, Bool, ◌&&◌, ◌||◌, not, ◌==◌, nat_le, nat_lt, cond, List, [], length, slice_index_or, Option, Some, None, is_some, unwrap_or, option_and_then, codes}
+use Rattle.std.specs.Prelude.{ℕ, ◌+◌, ◌-◌, ◌*◌, ◌/◌, Bool, ◌&&◌, ◌||◌, not, ◌==◌, nat_le, nat_lt, cond, List, [], length, slice_index_or, Option, Some, None, is_some, unwrap_or, option_and_then, codes}
 use Rattle.std.specs.List.{list_all}
 use Rattle.std.specs.Str.{bytes_eq}
+use Rattle.fx_whole.specs.Counting.{count_to}
 use Rattle.fx_whole.specs.First.{or_first, first_to}
 use Rattle.mj_words.specs.declared.table.Command.{Command}
 use Rattle.mj_words.specs.declared.table.Command.TheVariants as command
@@ -37,11 +38,6 @@ name_count words = length words / 2
 
 abbrev pub value_count : List (List ℕ) → ℕ
 value_count words = (length words - 1) / 2
-
--- how many tests before n pass
-abbrev pub count_to : ℕ → (ℕ → Bool) → ℕ
-count_to zero p = 0
-count_to (suc n) p = count_to n p + cond (p n) 1 0
 
 -- the command of accepted words
 abbrev pub command_of : List (List ℕ) → Command

@@ -1,6 +1,7 @@
 use Rattle.std.proofs.Common.{◌≡◌, ◌≤◌, map, string_bytes}
 use Rattle.std.specs.Str.{bytes_eq}
-use Rattle.mj_words.specs.Words.{count_to, name}
+use Rattle.fx_whole.specs.Counting.{count_to}
+use Rattle.mj_words.specs.Words.{name}
 use Rattle.mj_words.proofs.words.stood_before.Given as goal
 
 abbrev pub invariant-loop-i : goal.invariant-loop-i
