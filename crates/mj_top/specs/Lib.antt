@@ -1,6 +1,2 @@
-pub mod Accepted
-pub mod Controls
 pub mod Ends
 pub mod Outcome
-pub mod Run
-pub mod Words

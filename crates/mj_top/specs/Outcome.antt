@@ -8,13 +8,16 @@ use Rattle.mj_types.specs.declared.status.ModelFault.{ModelFault}
 use Rattle.mj_types.specs.declared.status.Status.{Status}
 use Rattle.mj_types.specs.declared.status.Status.TheVariants as status
 use Rattle.mj_types.specs.declared.tape.TapeFault.{TapeFault}
+use Rattle.mj_gen.specs.Chain.{chain_text}
 use Rattle.mj_step.specs.Smooth.{is_smooth}
 use Rattle.mj_tape.specs.Judging.{TapeValues, tape_verdict}
 use Rattle.mj_trace.specs.Refusal.{words_refusal, model_refusal, tape_refusal}
 use Rattle.mj_valid.specs.Judging.{told, judged_bytes}
-use Rattle.mj_top.specs.Controls.{controls_at}
-use Rattle.mj_top.specs.Words.{bad_place, model_of, step_count, tape_of}
-use Rattle.mj_top.specs.Run.{end_of, trace_text}
+use Rattle.mj_run.specs.Controls.{controls_at}
+use Rattle.mj_words.specs.declared.table.Command.{Command}
+use Rattle.mj_words.specs.declared.table.Command.TheVariants as command
+use Rattle.mj_words.specs.Words.{bad_place, command_of, model_of, step_count, tape_of, seed_of, link_count}
+use Rattle.mj_run.specs.Run.{end_of, trace_text}
 
 -- an answer and a text
 pub record Outcome : Type 0 where
@@ -32,6 +35,14 @@ model_refused fault = record { status = status.BadModel fault; text = model_refu
 -- the tape, which is the first and only one, is refused
 abbrev pub tape_refused : TapeFault → Outcome
 tape_refused fault = record { status = status.BadTape 1 fault; text = tape_refusal 1 fault }
+
+-- a text that ends well
+abbrev pub written : List ℕ → Outcome
+written text = record { status = status.Done; text = text }
+
+-- a model of so many links is generated from a seed
+abbrev pub generated : ℕ → ℕ → Outcome
+generated seed links = written (chain_text seed links)
 
 -- the answer to a run's end
 abbrev pub status_of : End → Status
@@ -89,11 +100,20 @@ module _ (held : List ℕ → Option (List ℕ)) where
   IsFileOutcome n tape bytes outcome =
       (judged : Result Model ModelFault) × (told judged ≡ judged_bytes bytes) × (with_model n tape judged ≡ Some outcome)
 
-  -- the words are refused, or the file that they name is read
+  -- `run`: of the model's file
+  abbrev pub IsRunOutcome : List (List ℕ) → Outcome → Type 0
+  IsRunOutcome words outcome =
+      (file : List ℕ) × (held (model_of words) ≡ Some file) × IsFileOutcome (step_count words) (tape_of words) (take model_cap file) outcome
+
+  -- of each command
+  abbrev pub IsCommandOutcome : Command → List (List ℕ) → Outcome → Type 0
+  IsCommandOutcome command.Run words outcome = IsRunOutcome words outcome
+  IsCommandOutcome command.Gen words outcome = outcome ≡ generated (seed_of words) (link_count words)
+
+  -- the words are refused, or do what their command does
   abbrev pub IsWordsOutcome : List (List ℕ) → Option ℕ → Outcome → Type 0
   IsWordsOutcome words (Some at) outcome = outcome ≡ words_refused at
-  IsWordsOutcome words None outcome =
-      (file : List ℕ) × (held (model_of words) ≡ Some file) × IsFileOutcome (step_count words) (tape_of words) (take model_cap file) outcome
+  IsWordsOutcome words None outcome = IsCommandOutcome (command_of words) words outcome
 
 -- the outcome of a command's words and files
 abbrev pub IsOutcome : List (List ℕ) → (List ℕ → Option (List ℕ)) → Outcome → Type 0

@@ -1,6 +1,7 @@
 // Runs through the top call, with their exact bytes.
 ghost use Rattle.std.specs.Prelude.{◌≤◌};
 
+mod generated;
 mod models;
 mod ranges;
 mod runs;
@@ -248,9 +249,4 @@ fn steps_share_a_write(rt: HostRuntime) -> Result<(), Fail> {
         assert_eq!(rt; sink.held().ends_with(b"end done\n"), code == 0);
     }
     Ok(())
-}
-
-#[test]
-fn the_law_of_words_can_be_cited() {
-    crate::accepted_words_have_no_bad_place();
 }

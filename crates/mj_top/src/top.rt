@@ -8,21 +8,24 @@ ghost use Rattle.mj_tape.specs.Judging.{tape_verdict};
 ghost use Rattle.mj_types.specs.States.{Fits};
 ghost use Rattle.mj_types.specs.Control.{Control};
 ghost use Rattle.mj_types.specs.declared.model.Model.{Model};
-ghost use Rattle.mj_top.specs.Controls.{tape_of as taped, Serves};
-ghost use Rattle.mj_top.specs.Words as command;
-ghost use Rattle.mj_top.specs.Run.{start, state_at};
+ghost use Rattle.mj_run.specs.Controls.{tape_of as taped, Serves};
+ghost use Rattle.mj_words.specs.Words as command;
+ghost use Rattle.mj_run.specs.Run.{start, state_at};
 ghost use Rattle.mj_top.specs.Outcome as spec;
 ghost use Rattle.mj_top.specs.Ends.{Answers, WritesNothing, HasCause, Completes, HasTapeCause, AreModel, IsMeant, Ends, EndsOrMemory, unless_failed};
 
-use crate::run::{Controls, Runner, send_run};
-use crate::words::{bad_place, model_of, step_count, tape_of};
 use fx_list::Text;
-use mj_io::{Cabinet, CabinetFault, Failed, NoMemory, Page, Sink, finish};
+use mj_gen::chain_model;
+use mj_io::{Cabinet, CabinetFault, Failed, NoMemory, Page, Sink, finish, send};
+use mj_run::{Controls, Runner, send_run};
 use mj_step::{is_smooth, steps_are_covered};
 use mj_tape::tape;
 use mj_trace::{send_model_refusal, send_tape_refusal, send_words_refusal};
 use mj_types::{End, Model, ModelCode, ModelFault, Status, TapeFault};
 use mj_valid::judge;
+use mj_words::{
+    Command, bad_place, command_of, link_count, model_of, seed_of, step_count, tape_of,
+};
 use std::alloc::Global;
 use std::thread::Threads;
 
@@ -263,14 +266,35 @@ fn run_model_file<C: Cabinet, S: Sink>(
     }
 }
 
-// Words that are accepted: the model's file is read.
-fn run_accepted<C: Cabinet, S: Sink>(
+// A text that ends well.
+fn write_whole<S: Sink>(sink: &mut S, text: &[u8]) -> Status
+    ensures { Ends S.holds S.faults (spec.written text.now) sink.old result sink.new }
+{
+    let mut page = Page::new();
+    send(sink, &mut page, text);
+    let written = finish(sink, &mut page);
+    answered(written, Status::Done)
+}
+
+// A generated model.
+fn generate<S: Sink>(alloc: Global, sink: &mut S, seed: u32, links: u32) -> Status
+    ensures { EndsOrMemory S.holds S.faults (spec.generated seed links) sink.old result sink.new }
+{
+    match chain_model(alloc, seed, links) {
+        Ok(text) => write_whole(sink, text.as_slice()),
+        Err(NoMemory) => Status::Memory,
+    }
+}
+
+// A run: the model's file is read.
+fn run_files<C: Cabinet, S: Sink>(
     alloc: Global,
     words: &[String],
     cabinet: &mut C,
     sink: &mut S,
 ) -> Status
-    requires { command.bad_place (map string_bytes words.now) ≡ None }
+    requires good { command.bad_place (map string_bytes words.now) ≡ None }
+    requires run { command.command_of (map string_bytes words.now) ≡ Command.Run }
     ensures outcome { IsTrue (C.tells cabinet.old) →
         Answers (spec.IsOutcome (map string_bytes words.now) (C.holds cabinet.old)) result
         (S.holds sink.old) (S.holds sink.new) }
@@ -286,8 +310,30 @@ fn run_accepted<C: Cabinet, S: Sink>(
     }
 }
 
-/// Runs the command that the words give: reads the model from the cabinet, runs it, and writes the
-/// trace, or the one line of a refusal, to the sink.
+// Words that are accepted.
+fn run_accepted<C: Cabinet, S: Sink>(
+    alloc: Global,
+    words: &[String],
+    cabinet: &mut C,
+    sink: &mut S,
+) -> Status
+    requires { command.bad_place (map string_bytes words.now) ≡ None }
+    ensures outcome { IsTrue (C.tells cabinet.old) →
+        Answers (spec.IsOutcome (map string_bytes words.now) (C.holds cabinet.old)) result
+        (S.holds sink.old) (S.holds sink.new) }
+    ensures nothing { WritesNothing result (S.holds sink.old) (S.holds sink.new) }
+    ensures cause { HasCause (map string_bytes words.now) (C.tells cabinet.old)
+        (C.holds cabinet.old) result (C.faults cabinet.old) (C.faults cabinet.new)
+        (S.faults sink.old) (S.faults sink.new) }
+{
+    match command_of(words) {
+        Command::Run => run_files(alloc, words, cabinet, sink),
+        Command::Gen => generate(alloc, sink, seed_of(words), link_count(words)),
+    }
+}
+
+/// Does what the words' command does, and writes its text, or the one line of a refusal, to the sink:
+/// `run` reads a model from the cabinet, runs it and writes the trace; `gen` writes a generated model.
 ///
 /// `outcome`: where the cabinet tells, the answer and what the sink gains are those of the outcome for
 /// these words and files, but for `ReadFault`, `WriteFault` and `Memory`. `nothing`: after `ReadFault`

@@ -2,7 +2,7 @@ use Rattle.std.proofs.Common.{◌≡◌, true, false, Some, map, string_bytes, r
 use Rattle.std.proofs.lemmas.Bool.{cond-true, cond-false}
 use Rattle.mj_step.specs.Smooth.{is_smooth}
 use Rattle.mj_types.specs.declared.status.ModelFault.{ModelFault}
-use Rattle.mj_top.specs.Words.{step_count, tape_of}
+use Rattle.mj_words.specs.Words.{step_count, tape_of}
 use Rattle.mj_top.specs.Outcome.{Outcome, with_accepted, with_tape_name, model_refused, not_built}
 use Rattle.mj_top.specs.Ends.{Ends}
 use Rattle.mj_top.proofs.Endings.{answers-within, answers-from_ends, nothing-from_ends, tape_cause-from_ends}

@@ -3,7 +3,7 @@ use Rattle.mj_io.proofs.Memory.{or_memory-ok, or_memory-err}
 use Rattle.mj_read.specs.Document.{no_memory}
 use Rattle.mj_types.specs.declared.status.Status.{Status}
 use Rattle.mj_valid.specs.Judging.{accepted_of, judged_bytes}
-use Rattle.mj_top.specs.Words.{step_count, tape_of}
+use Rattle.mj_words.specs.Words.{step_count, tape_of}
 use Rattle.mj_top.specs.Outcome.{Outcome, IsFileOutcome, with_accepted, model_refused}
 use Rattle.mj_top.specs.Ends.{Ends}
 use Rattle.mj_top.proofs.Endings.{answers-within, answers-from_ends, nothing-from_ends, tape_cause-from_ends}

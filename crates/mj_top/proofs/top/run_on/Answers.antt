@@ -1,7 +1,7 @@
 use Rattle.std.proofs.Common.{ap, ◌∙◌, length}
 use Rattle.mj_io.proofs.Sent.{wrote-finished}
-use Rattle.mj_top.specs.Controls.{controls_at, tape_of}
-use Rattle.mj_top.specs.Run.{end_of}
+use Rattle.mj_run.specs.Controls.{controls_at, tape_of}
+use Rattle.mj_run.specs.Run.{end_of}
 use Rattle.mj_top.specs.Outcome.{ran, status_of}
 use Rattle.mj_top.specs.Ends.{unless_failed}
 use Rattle.mj_top.proofs.Endings.{ends-from_wrote, told-status_of}

@@ -1,9 +1,9 @@
 use Rattle.std.proofs.Common.{◌≡◌, ◌∙◌, map, string_bytes, sym, Some, None, option_map, ap, take, length}
 use Rattle.mj_io.proofs.Growth.{Gives-held}
 use Rattle.mj_tape.specs.Judging.{tape_verdict}
-use Rattle.mj_top.specs.Controls.{controls_at}
-use Rattle.mj_top.specs.Words.{step_count, tape_of}
-use Rattle.mj_top.specs.Run.{end_of}
+use Rattle.mj_run.specs.Controls.{controls_at}
+use Rattle.mj_words.specs.Words.{step_count, tape_of}
+use Rattle.mj_run.specs.Run.{end_of}
 use Rattle.mj_top.specs.Outcome.{Outcome, ran, with_tape, with_tape_name, with_tape_file, tape_room, tape_cap}
 use Rattle.mj_top.proofs.Endings.{answers-from_either, nothing-from_either, tape_cause-from_either, later-status_of, later-with_tape}
 use Rattle.mj_top.proofs.top.run_with_tape.Goals as goal

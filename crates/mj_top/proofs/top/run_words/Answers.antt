@@ -1,8 +1,8 @@
 use Rattle.std.proofs.Common.{◌≡◌, List, ℕ, map, string_bytes, sym, Some, None, Option, refl, ap, subst}
 use Rattle.mj_types.specs.declared.model.Model.{Model}
 use Rattle.mj_types.specs.Control.{Control}
-use Rattle.mj_top.specs.Run.{state_at}
-use Rattle.mj_top.specs.Words.{bad_place}
+use Rattle.mj_run.specs.Run.{state_at}
+use Rattle.mj_words.specs.Words.{bad_place}
 use Rattle.mj_top.specs.Outcome.{Outcome, IsOutcome, IsWordsOutcome, words_refused}
 use Rattle.mj_top.proofs.Endings.{answers-from_ends, nothing-from_ends, cause-from_refused, completes}
 use Rattle.mj_top.proofs.top.run_words.Goals as goal

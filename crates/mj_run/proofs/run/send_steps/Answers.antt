@@ -1,0 +1,103 @@
+use Rattle.std.proofs.Common.{◌≡◌, ◌<◌, ◌+◌, ◌++◌, ℕ, List, Some, None, length, refl, sym, subst, ap, ◌∙◌, arith}
+use Rattle.fx_whole.proofs.JoinedLaws.{joined-none}
+use Rattle.mj_io.proofs.Sent.{sent-then, sent-nothing, sent-past}
+use Rattle.mj_passive.specs.Forces.{AreControls}
+use Rattle.mj_types.specs.Control.{Control}
+use Rattle.mj_step.specs.Steps.{step_state, step_values, step_fault}
+use Rattle.mj_trace.specs.Block.{block_text}
+use Rattle.mj_run.specs.Controls.{controls_at, tape_of}
+use Rattle.mj_run.specs.Run.{state_at, block_at, blocks_text, done_of}
+use Rattle.mj_run.proofs.ControlLaws.{controls-lawful}
+use Rattle.mj_run.proofs.Steps.{whole, done-early, end-early, blocks-prefix, done-least, state-more, passed-more, refused-here, text-more}
+use Rattle.mj_run.proofs.run.send_steps.Goals as goal
+
+pub loop-done-init : goal.loop-done-init
+unfolding state_at
+loop-done-init g c =
+    let m = c.args.model.now in
+    let driven = controls_at (length m.motors) (tape_of c.args.controls.now) in
+    record {
+      made = c.requires.made;
+      fits = c.requires.fits;
+      state = c.requires.start;
+      passed = refl;
+      sent = rw (joined-none (block_at m driven)) (sent-nothing g.S.Sink.holds g.S.Sink.faults c.args.sink.now c.args.page.now);
+    }
+
+pub send_step-requires-clause-controls : goal.send_step-requires-clause-controls
+send_step-requires-clause-controls g c =
+    let m = c.args.model.now in
+    let controls = c.args.controls.now in
+    let row = c.at-row.ensures.value ∙ ap (λ w. controls_at w (tape_of controls) c.loop-done.done) c.len.ensures in
+    let P = λ (u : List Control). AreControls m u in
+    subst P (sym row) (controls-lawful m controls c.args.steps c.loop-done.done c.requires.serves c.loop-done-test.true)
+
+pub loop-done-preserved : goal.loop-done-preserved
+loop-done-preserved g c =
+    let m = c.args.model.now in
+    let controls = c.args.controls.now in
+    let driven = controls_at (length m.motors) (tape_of controls) in
+    let k = c.loop-done.done in
+    let s = c.loop-done.runner.state in
+    let so_far = c.loop-done.invariant in
+    let row = c.at-row.ensures.value ∙ ap (λ w. controls_at w (tape_of controls) k) c.len.ensures in
+    record {
+      made = c.in-Ok.ensures.made;
+      fits = c.in-Ok.ensures.fits;
+      state = state-more m driven k s c.send_step.new.runner.state so_far.state (c.in-Ok.ensures.state ∙ ap (step_state m s) row);
+      passed = passed-more m driven k s so_far.state so_far.passed (ap (step_fault m s) (sym row) ∙ sym c.in-Ok.ensures.first);
+      sent = sent-then so_far.sent c.in-Ok.ensures.sent
+          (text-more m driven k s so_far.state
+          ∙ ap (λ u. blocks_text m driven k ++ block_text m.format m.nq m.nv (k + 1) (step_values m s u) None) (sym row));
+    }
+
+-- a step was refused
+pub returns-in-Err-clause-sent : goal.returns-in-Err-clause-sent
+returns-in-Err-clause-sent g c =
+    let m = c.args.model.now in
+    let controls = c.args.controls.now in
+    let driven = controls_at (length m.motors) (tape_of controls) in
+    let k = c.loop-done.done in
+    let s = c.loop-done.runner.state in
+    let so_far = c.loop-done.invariant in
+    let row = c.at-row.ensures.value ∙ ap (λ w. controls_at w (tape_of controls) k) c.len.ensures in
+    let refused = refused-here m driven k s c.in-Err.out so_far.state (ap (step_fault m s) (sym row) ∙ sym c.in-Err.ensures.first) in
+    rw (c.in-Err.ensures.sink, c.in-Err.ensures.page, done-early m driven k c.args.steps c.in-Err.out c.loop-done-test.true so_far.passed refused) so_far.sent
+
+pub returns-in-Err-clause-end : goal.returns-in-Err-clause-end
+returns-in-Err-clause-end g c =
+    let m = c.args.model.now in
+    let controls = c.args.controls.now in
+    let driven = controls_at (length m.motors) (tape_of controls) in
+    let k = c.loop-done.done in
+    let s = c.loop-done.runner.state in
+    let so_far = c.loop-done.invariant in
+    let row = c.at-row.ensures.value ∙ ap (λ w. controls_at w (tape_of controls) k) c.len.ensures in
+    let refused = refused-here m driven k s c.in-Err.out so_far.state (ap (step_fault m s) (sym row) ∙ sym c.in-Err.ensures.first) in
+    c.early_end.ensures ∙ sym (end-early m driven k c.args.steps c.in-Err.out c.loop-done-test.true so_far.passed refused)
+
+-- the writing stopped
+pub returns-then-not-is_going-clause-sent : goal.returns-then-not-is_going-clause-sent
+returns-then-not-is_going-clause-sent g c =
+    let m = c.args.model.now in
+    let controls = c.args.controls.now in
+    let driven = controls_at (length m.motors) (tape_of controls) in
+    let k = c.loop-done.done in
+    let s = c.loop-done.runner.state in
+    let so_far = c.loop-done.invariant in
+    let row = c.at-row.ensures.value ∙ ap (λ w. controls_at w (tape_of controls) k) c.len.ensures in
+    let more = text-more m driven k s so_far.state
+    ∙ ap (λ u. blocks_text m driven k ++ block_text m.format m.nq m.nv (k + 1) (step_values m s u) None) (sym row) in
+    let passed = passed-more m driven k s so_far.state so_far.passed (ap (step_fault m s) (sym row) ∙ sym c.in-Ok.ensures.first) in
+    let least = done-least m driven (k + 1) c.args.steps (omega arith) passed in
+    let rest = blocks-prefix m driven (k + 1) (done_of m driven c.args.steps) least in
+    sent-past rest.0 (sent-then so_far.sent c.in-Ok.ensures.sent more) rest.1 cc
+
+pub returns : goal.returns
+returns g c =
+    let m = c.args.model.now in
+    let driven = controls_at (length m.motors) (tape_of c.args.controls.now) in
+    let so_far = c.loop-done.invariant in
+    let all : c.loop-done.done ≡ c.args.steps = omega arith in
+    let done = whole m driven c.loop-done.done c.args.steps all so_far.passed in
+    record { sent = rw done.0 so_far.sent; end = sym done.1 }

@@ -1,0 +1,6 @@
+//! Runs of a model and what they tell.
+#![tactic(auto)]
+
+pub mod run;
+
+pub use run::{Controls, Runner, send_run};
