@@ -1,6 +1,7 @@
 pub mod CertifiedLaws
 pub mod CoverLaws
 pub mod ForceLaws
+pub mod GapLaws
 pub mod PushLaws
 pub mod Radii
 pub mod RowLaws

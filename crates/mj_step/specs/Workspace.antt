@@ -1,5 +1,5 @@
 -- Which workspaces are made for a model, and what they hold after each part of a step.
-use Rattle.std.specs.Prelude.{◌≡◌, ℕ, ◌-◌, ◌*◌, ◌<◌, ◌≤◌, ◌^◌, ℤ, ◌*ℤ◌, List, length, unsigned_abs, slice_index_or}
+use Rattle.std.specs.Prelude.{◌≡◌, ℕ, ◌-◌, ◌*◌, ◌<◌, ◌≤◌, ◌^◌, ℤ, ◌-ℤ◌, ◌*ℤ◌, ◌≤ℤ◌, List, length, unsigned_abs, slice_index_or}
 use Rattle.fx_whole.specs.Sums.{sum_to}
 use Rattle.fx_num.specs.declared.number.Number.{Number}
 use Rattle.mj_types.specs.declared.model.Model.{Model}
@@ -8,6 +8,7 @@ use Rattle.mj_types.specs.declared.carriers.Applied.{Applied}
 use Rattle.mj_types.specs.declared.carriers.Factor.{Factor}
 use Rattle.mj_types.specs.declared.carriers.Frames.{Frames}
 use Rattle.mj_types.specs.declared.carriers.Mass.{Mass}
+use Rattle.mj_types.specs.declared.dual.Cert.{Cert}
 use Rattle.mj_types.specs.declared.dual.Dual.{Dual}
 use Rattle.mj_types.specs.declared.dual.Forces.{Forces}
 use Rattle.mj_types.specs.declared.rows.Rows.{Rows}
@@ -118,3 +119,8 @@ pub record HasForces (m : Model) (s : State) (u : List Control) (r : StepReport)
   pub low : (i : ℕ) → i < (problem_at m s u).m → number_at r.cert.lo i ≡ lo (problem_at m s u) (force_at m s u) i
   pub high : (i : ℕ) → i < (problem_at m s u).m → number_at r.cert.hi i ≡ hi (problem_at m s u) (force_at m s u) i
   pub small : (k : ℕ) → k < (problem_at m s u).m → unsigned_abs (force_at m s u k) ≤ 2 ^ 50
+
+-- the bound isn't above the cost, and not far below it
+pub record HasGap (c : Cert) : Type 0 where
+  pub order : c.bound2 ≤ℤ c.cost2
+  pub near : unsigned_abs (c.cost2 -ℤ c.bound2) ≤ 2 ^ 124

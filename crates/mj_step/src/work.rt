@@ -11,7 +11,7 @@ ghost use Rattle.mj_types.specs.RowRooms.{RowsRoom, ReportRoom};
 ghost use Rattle.mj_euler.specs.Written.{StateRoom};
 ghost use Rattle.mj_passive.specs.Forces.{AreControls, applied_fault};
 ghost use Rattle.mj_step.specs.Steps as spec;
-ghost use Rattle.mj_step.specs.Workspace.{MadeFor, HasFrames, HasMass, HasBias, HasApplied, HasLoad, HasAcceleration, HasFactor, HasRows, HasForces};
+ghost use Rattle.mj_step.specs.Workspace.{MadeFor, HasFrames, HasMass, HasBias, HasApplied, HasLoad, HasAcceleration, HasFactor, HasRows, HasForces, HasGap};
 
 use crate::loading::fill_load;
 use crate::report::{
@@ -313,6 +313,7 @@ impl Work {
             (spec.smooth model.now state.old controls.now) self.new.smooth.items) }
         ensures rows { IfOk result (λ _. HasRows model.now state.old controls.now
             self.new.rows self.new.dual) }
+        ensures gap { IfOk result (λ _. HasGap self.new.report.cert) }
         ensures kept { IfErr result (λ _. state.new ≡ state.old) }
         ensures flag { self.new.is_done ≡ is_ok result }
     {
@@ -398,6 +399,7 @@ impl Work {
             (spec.smooth model.now state.now controls.now) self.new.smooth.items) }
         ensures rows { IfOk result (λ _. HasRows model.now state.now controls.now
             self.new.rows self.new.dual) }
+        ensures gap { IfOk result (λ _. HasGap self.new.report.cert) }
         ensures flag { self.new.is_done ≡ self.old.is_done }
     {
         self.weigh(model, state)?;

@@ -4,6 +4,7 @@ use Rattle.fx_whole.proofs.FirstLaws.{stop_first, pass_first}
 use Rattle.mj_euler.specs.Advance.{state_fault}
 use Rattle.mj_types.specs.Parts.{number_at}
 use Rattle.mj_step.specs.Steps.{step_fault}
+use Rattle.mj_step.proofs.GapLaws.{gap-small}
 use Rattle.mj_step.proofs.work.Work.compute.Goals as goal
 
 pub push_constraints-requires-clause-in_range : goal.push_constraints-requires-clause-in_range
@@ -108,3 +109,8 @@ returns-clause-first c =
     (c.in_ok-integrate.ensures.first
     ∙ ap (λ xs. state_fault c.args.model.now c.args.state.now (number_at xs)) c.as_slice.ensures.value
     ∙ ap (state_fault c.args.model.now c.args.state.now) c.in_ok-accelerate.ensures.accel.value)))))))
+
+pub returns-clause-gap : goal.returns-clause-gap
+returns-clause-gap c =
+    let told = c.fill_report.ensures.report in
+    gap-small c.args.model.now c.args.state.now c.args.controls.now _ (sym c.in_ok-enclose.ensures.first) (ap (λ x. x.cost) told) (ap (λ x. x.bound) told)
