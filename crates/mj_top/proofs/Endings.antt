@@ -18,7 +18,7 @@ use Rattle.mj_words.specs.declared.table.Command.{Command}
 use Rattle.mj_words.specs.declared.table.Command.TheVariants as command
 use Rattle.mj_words.specs.Words.{bad_place, command_of, model_of, step_count, tape_of, wants_dual}
 use Rattle.mj_top.specs.Outcome.{Outcome, IsOutcome, IsFileOutcome, IsCommandOutcome, IsWordsOutcome, words_refused, status_of, with_tape, with_tape_file, with_tape_name, with_model, model_cap}
-use Rattle.mj_top.specs.Ends.{Answers, WritesNothing, HasCause, Completes, IsMeant, RunReadRose, CommandReadRose, ReadRose, TapeRose, HasTapeCause, Ends, EndsOrMemory, unless_failed}
+use Rattle.mj_top.specs.Ends.{Answers, WritesNothing, HasCause, Completes, RunReadRose, CommandReadRose, ReadRose, TapeRose, HasTapeCause, Ends, EndsOrMemory, unless_failed}
 
 -- a status that tells of an outcome, and of no fault
 abbrev pub IsTold : Status → Type 0

@@ -5,11 +5,11 @@ use Rattle.mj_io.specs.Growth.{Grew, GrewPart}
 use Rattle.mj_types.specs.declared.model.Model.{Model}
 use Rattle.mj_types.specs.declared.status.Status.{Status}
 use Rattle.mj_types.specs.declared.status.Status.TheVariants as status
-use Rattle.mj_valid.specs.Judging.{Accepted, accepted_of, judged_bytes}
+use Rattle.mj_valid.specs.Judging.{accepted_of, judged_bytes}
 use Rattle.mj_words.specs.declared.table.Command.{Command}
 use Rattle.mj_words.specs.declared.table.Command.TheVariants as command
 use Rattle.mj_words.specs.Words.{bad_place, command_of, model_of, tape_of}
-use Rattle.mj_top.specs.Outcome.{Outcome, IsOutcome, words_refused, model_cap}
+use Rattle.mj_top.specs.Outcome.{Outcome, IsOutcome, model_cap}
 
 -- the status is the outcome's, and its whole text was written
 pub record EndsWhole (outcome : Outcome) (old : Option (List ℕ)) (answer : Status) (new : Option (List ℕ)) : Type 0 where

@@ -1,5 +1,5 @@
 -- No word is bad exactly where the words are accepted.
-use Rattle.std.proofs.Common.{◌≡◌, ℕ, zero, suc, ◌+◌, ◌-◌, ◌*◌, ◌/◌, ◌<◌, ◌≤◌, Bool, true, false, not, ◌&&◌, ◌||◌, ◌==◌, nat_lt, cond, List, [], ◌∷◌, inl, inr, length, Option, Some, None, is_some, unwrap_or, refl, sym, ◌∙◌, ap, arith}
+use Rattle.std.proofs.Common.{◌≡◌, ℕ, zero, suc, ◌+◌, ◌-◌, ◌*◌, ◌/◌, ◌<◌, ◌≤◌, Bool, true, false, not, ◌&&◌, ◌||◌, ◌==◌, cond, List, [], ◌∷◌, inl, inr, length, Option, Some, None, is_some, unwrap_or, refl, sym, ◌∙◌, ap, arith}
 use Rattle.std.specs.List.{list_all}
 use Rattle.std.specs.Str.{bytes_eq}
 use Rattle.std.proofs.lemmas.Bool.{cases_Bool}
@@ -13,7 +13,7 @@ use Rattle.mj_words.specs.declared.table.Command.TheVariants as command
 use Rattle.mj_words.specs.declared.table.Name.{Name}
 use Rattle.mj_words.specs.declared.table.Name.TheVariants as named
 use Rattle.mj_words.specs.Table.{command_named, text_of, all_names, rule, rule_of}
-use Rattle.mj_words.specs.Words.{word, name, value, name_count, value_count, command_of, fits, given, unless, bad_command, stood_before, bad_name, bad_names, value_missing, bad_value, bad_values, is_served, name_missing, past_end, bad_pairs, bad_place, name_place, value_place}
+use Rattle.mj_words.specs.Words.{word, name, value, name_count, value_count, command_of, given, unless, bad_command, stood_before, bad_name, bad_names, value_missing, bad_value, bad_values, is_served, name_missing, past_end, bad_pairs, bad_place, name_place, value_place}
 use Rattle.mj_words.specs.Accepted.{AreAccepted, AcceptedHaveNoBadPlace}
 use Rattle.mj_words.proofs.Counts.{stand_within}
 

@@ -2,7 +2,6 @@
 use Rattle.std.specs.Prelude.{◌≡◌, ◌↔◌, ℕ, ◌+◌, ◌*◌, ◌<◌, ◌≤◌, true, List, length, Some, None}
 use Rattle.std.specs.Str.{bytes_eq}
 use Rattle.fx_whole.specs.Counting.{count_to}
-use Rattle.mj_words.specs.declared.table.Command.{Command}
 use Rattle.mj_words.specs.declared.table.Name.{Name}
 use Rattle.mj_words.specs.Table.{command_named, text_of, rule, rule_of}
 use Rattle.mj_words.specs.Words.{word, name, value, value_count, fits, command_of, bad_place}

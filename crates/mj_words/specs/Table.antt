@@ -1,6 +1,6 @@
 -- The table of commands: the names that each takes, how often each may stand, which are required,
 -- and the values that they take. A format of this project's own.
-use Rattle.std.specs.Prelude.{ℕ, Bool, true, false, cond, List, [], ◌∷◌, find, Option, Some, None, codes}
+use Rattle.std.specs.Prelude.{ℕ, true, false, cond, List, [], ◌∷◌, find, Option, Some, None, codes}
 use Rattle.std.specs.Str.{bytes_eq}
 use Rattle.mj_words.specs.declared.table.Command.{Command}
 use Rattle.mj_words.specs.declared.table.Command.TheVariants as command

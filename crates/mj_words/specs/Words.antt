@@ -140,6 +140,23 @@ step_count words = number_under words named.Steps
 abbrev pub tape_of : List (List ℕ) → Option (List ℕ)
 tape_of words = given words (codes "--tape")
 
+-- the value of pair j names a tape
+abbrev pub is_tape : List (List ℕ) → ℕ → Bool
+is_tape words j = bytes_eq (name words j) (codes "--tape")
+
+-- how many tapes are named
+abbrev pub tape_count : List (List ℕ) → ℕ
+tape_count words = count_to (value_count words) (is_tape words)
+
+-- pair j names a tape after k others
+abbrev pub is_nth : List (List ℕ) → ℕ → ℕ → Bool
+is_nth words k j = is_tape words j && (count_to j (is_tape words) == k)
+
+-- the file of the tape that is named after k others
+abbrev pub nth_tape : List (List ℕ) → ℕ → Option (List ℕ)
+nth_tape words k =
+    first_to (value_count words) (λ j. cond (is_nth words k j) (Some (value words j)) None)
+
 -- the trace shows each step's dual
 abbrev pub wants_dual : List (List ℕ) → Bool
 wants_dual words = bytes_eq (unwrap_or (given words (codes "--dual")) []) (codes "yes")

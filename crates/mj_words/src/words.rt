@@ -1,6 +1,7 @@
 // Judging the words after the program's name. It takes no memory.
-ghost use Rattle.std.specs.Prelude.{◌≡◌, ◌+◌, ◌*◌, ◌<◌, ◌^◌, map, length, None, option_map, string_bytes};
+ghost use Rattle.std.specs.Prelude.{◌≡◌, ◌+◌, ◌*◌, ◌<◌, ◌≤◌, ◌^◌, map, length, None, option_map, string_bytes};
 ghost use Rattle.std.specs.List.{list_all};
+ghost use Rattle.fx_whole.specs.Counting.{count_to};
 ghost use Rattle.mj_words.specs.Accepted.{AcceptedHaveNoBadPlace};
 ghost use Rattle.mj_words.specs.Table.{all_names};
 ghost use Rattle.mj_words.specs.Words as spec;
@@ -237,6 +238,55 @@ pub fn tape_of(words: &[String]) -> Option<&str>
     ensures { option_map (λ s. s.now) result ≡ spec.tape_of (map string_bytes words.now) }
 {
     given(words, "--tape")
+}
+
+// Whether the value of pair `j` names a tape.
+fn is_tape(words: &[String], j: usize) -> bool
+    requires { 2 * j + 1 < length words.now }
+    ensures { result ≡ spec.is_tape (map string_bytes words.now) j }
+{
+    word_at(words, 2 * j + 1) == "--tape"
+}
+
+// How many of the first `n` pairs name a tape.
+fn tapes_before(words: &[String], n: usize) -> usize
+    requires { 2 * n ≤ length words.now }
+    ensures { result ≡ count_to n (spec.is_tape (map string_bytes words.now)) }
+{
+    let mut count = 0;
+    for j in 0..n {
+        if is_tape(words, j) {
+            count += 1;
+        }
+    }
+    count
+}
+
+// Whether pair `j` names a tape after `k` others.
+fn is_nth(words: &[String], k: usize, j: usize) -> bool
+    requires { 2 * j + 1 < length words.now }
+    ensures { result ≡ spec.is_nth (map string_bytes words.now) k j }
+{
+    is_tape(words, j) && tapes_before(words, j) == k
+}
+
+/// How many tapes the words name.
+pub fn tape_count(words: &[String]) -> usize
+    ensures { result ≡ spec.tape_count (map string_bytes words.now) }
+{
+    tapes_before(words, words.len().saturating_sub(1) / 2)
+}
+
+/// The name of the file of the tape that the words name after `k` others.
+pub fn nth_tape(words: &[String], k: usize) -> Option<&str>
+    ensures { option_map (λ s. s.now) result ≡ spec.nth_tape (map string_bytes words.now) k }
+{
+    for j in 0..words.len().saturating_sub(1) / 2 {
+        if is_nth(words, k, j) {
+            return Some(word_at(words, 2 * j + 2));
+        }
+    }
+    None
 }
 
 /// Whether accepted words ask for each step's dual.

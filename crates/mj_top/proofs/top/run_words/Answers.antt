@@ -1,4 +1,4 @@
-use Rattle.std.proofs.Common.{◌≡◌, List, ℕ, map, string_bytes, sym, Some, None, Option, refl, ap, subst}
+use Rattle.std.proofs.Common.{◌≡◌, List, ℕ, map, string_bytes, sym, Some, Option, refl, ap, subst}
 use Rattle.mj_types.specs.declared.model.Model.{Model}
 use Rattle.mj_types.specs.Control.{Control}
 use Rattle.mj_run.specs.Run.{state_at}
