@@ -2,5 +2,6 @@
 #![tactic(auto)]
 
 pub mod run;
+pub mod summing;
 
 pub use run::{Controls, Runner, send_run};

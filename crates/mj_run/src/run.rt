@@ -89,7 +89,7 @@ impl Runner {
 }
 
 // The end of a run whose step after `done` others is refused.
-fn early_end(done: u32, out: &OutOfRange) -> End
+pub(crate) fn early_end(done: u32, out: &OutOfRange) -> End
     ensures { result ≡ End.OutOfRange (done + 1) out.now.kind out.now.index }
 {
     End::OutOfRange {
