@@ -148,7 +148,7 @@ fn with_step(sum: Summary, report: &StepReport) -> Summary
     requires order { report.now.cert.bound2 ≤ℤ report.now.cert.cost2 }
     requires near { unsigned_abs
         (report.now.cert.cost2 -ℤ report.now.cert.bound2) ≤ 2 ^ 124 }
-    requires residual { unsigned_abs report.now.residual < 2 ^ 127 }
+    requires residual { pos 0 ≤ℤ report.now.residual }
     requires spare { spec.HasSpareSums sum }
     requires count { sum.done < 2 ^ 32 - 1 }
     ensures spare { spec.HasSpareSums result }
@@ -170,4 +170,63 @@ fn with_step(sum: Summary, report: &StepReport) -> Summary
         gap: larger(&sum.gap, gap(&report.cert)),
         residual: larger(&sum.residual, report.residual.unsigned_abs()),
     }
+}
+
+// The step after those that are summed, with its sums where it is done.
+fn sum_step(
+    model: &Model,
+    runner: &mut Runner,
+    controls: &[Fix<32>],
+    sum: Summary,
+) -> Result<Summary, OutOfRange>
+    requires smooth { IsTrue (is_smooth model.now) }
+    requires made { MadeFor model.now runner.old.work }
+    requires fits { Fits model.now runner.old.state }
+    requires controls { AreControls model.now controls.now }
+    requires spare { spec.HasSpareSums sum }
+    requires count { sum.done < 2 ^ 32 - 1 }
+    ensures made { MadeFor model.now runner.new.work }
+    ensures fits { Fits model.now runner.new.state }
+    ensures first { refusal_of result
+        ≡ step_fault model.now runner.old.state controls.now }
+    ensures state { IfOk result (λ _. runner.new.state
+        ≡ step_state model.now runner.old.state controls.now) }
+    ensures kept { IfErr result (λ _. runner.new.state ≡ runner.old.state) }
+    ensures spare { IfOk result (λ next. spec.HasSpareSums next) }
+    ensures more { IfOk result (λ next. (told : ℕ → StepValues)
+        → step_values model.now runner.old.state controls.now ≡ told sum.done
+        → sum ≡ spec.summary_to told sum.done sum.steps sum.end
+        → next ≡ spec.summary_to told (sum.done + 1) sum.steps sum.end) }
+{
+    runner.work.step(model, &mut runner.state, controls)?;
+    Ok(with_step(sum, runner.work.report()))
+}
+
+/// Runs the model from its start under these controls and writes nothing: the answer is what the run of
+/// so many steps comes to, and the runner holds the state after the last step that was done. Takes no
+/// memory.
+pub fn sum_run(model: &Model, runner: &mut Runner, controls: &Controls, steps: u32) -> Summary
+    requires smooth { IsTrue (is_smooth model.now) }
+    requires made { MadeFor model.now runner.old.work }
+    requires fits { Fits model.now runner.old.state }
+    requires start { runner.old.state ≡ start model.now }
+    requires serves { Serves controls.now (length model.now.motors) steps }
+    ensures made { MadeFor model.now runner.new.work }
+    ensures fits { Fits model.now runner.new.state }
+    ensures summary { result ≡ spec.summary_of model.now
+        (controls_at (length model.now.motors) (tape_of controls.now)) steps }
+    ensures state { runner.new.state ≡ state_at model.now
+        (controls_at (length model.now.motors) (tape_of controls.now))
+        (done_of model.now
+        (controls_at (length model.now.motors) (tape_of controls.now)) steps) }
+{
+    let mut sum = no_steps(steps);
+    for done in 0..steps {
+        let row = controls.at(model.motors.len(), steps, done);
+        match sum_step(model, runner, row, sum) {
+            Ok(next) => sum = next,
+            Err(out) => return ended(sum, early_end(done, &out)),
+        }
+    }
+    sum
 }

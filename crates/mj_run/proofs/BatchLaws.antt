@@ -1,0 +1,39 @@
+-- Laws of batches: one job more.
+use Rattle.std.proofs.Common.{◌≡◌, ℕ, ◌+◌, ◌<◌, List, [], ◌∷◌, ◌++◌, length, map, flat_map, slice_index_or, refl, sym, ap, ap₂, ◌∙◌, arith}
+use Rattle.std.proofs.lemmas.List.{get_or_push, get_or_append_left, map-append, length-append, append-nil}
+use Rattle.std.proofs.lemmas.List.Concat.{flat_map-append}
+use Rattle.fx_whole.specs.Joined.{joined}
+use Rattle.fx_whole.proofs.JoinedLaws.{joined-more, joined-ext}
+use Rattle.mj_tape.specs.Judging.{TapeValues}
+use Rattle.mj_types.specs.declared.model.Model.{Model}
+use Rattle.mj_run.specs.declared.job.RunJob.{RunJob}
+use Rattle.mj_run.specs.Batch.{no_tape, tape_at, driven_by, report_text, batch_text, end_under, due_report, due_end, AreJobsOf}
+
+-- the text of a batch with one tape more
+pub batch-more : (m : Model) (n : ℕ) (tapes : List TapeValues) (tape : TapeValues)
+    → batch_text m n (tapes ++ tape ∷ []) ≡ batch_text m n tapes ++ report_text m (length tapes + 1) (driven_by m tape) n
+batch-more m n tapes tape =
+    let report = λ (all : List TapeValues) (t : ℕ). report_text m (t + 1) (driven_by m (tape_at all t)) n in
+    let all = tapes ++ tape ∷ [] in
+    let count : length all ≡ length tapes + 1 = length-append tapes (tape ∷ []) in
+    ap (λ k. joined k (report all)) count
+    ∙ joined-more (length tapes) (report all)
+    ∙ ap₂ (λ x y. x ++ y)
+      (joined-ext (length tapes) (report all) (report tapes) (λ t h. ap (λ x. report_text m (t + 1) (driven_by m x) n) (get_or_append_left tapes (tape ∷ []) t no_tape h)))
+      (ap (λ x. report_text m (length tapes + 1) (driven_by m x) n) (get_or_push tapes tape no_tape (length tapes) refl))
+
+-- jobs with one more for it
+pub jobs-more : (m : Model) (n : ℕ) (tapes : List TapeValues) (tape : TapeValues) (jobs : List RunJob) (job : RunJob)
+    → due_report job ≡ report_text m (length jobs + 1) (driven_by m tape) n → due_end job ≡ end_under m n tape
+    → AreJobsOf m n tapes jobs → AreJobsOf m n (tapes ++ tape ∷ []) (jobs ++ job ∷ [])
+jobs-more m n tapes tape jobs job report end given = record {
+  many = length-append jobs (job ∷ []) ∙ ap (λ k. k + 1) given.many ∙ sym (length-append tapes (tape ∷ []));
+  text =
+      flat_map-append due_report jobs (job ∷ [])
+      ∙ ap₂ (λ x y. x ++ y) given.text (append-nil (due_report job) ∙ report ∙ ap (λ k. report_text m (k + 1) (driven_by m tape) n) given.many)
+      ∙ sym (batch-more m n tapes tape);
+  ends =
+      map-append due_end jobs (job ∷ [])
+      ∙ ap₂ (λ xs ys. xs ++ ys) given.ends (ap (λ e. e ∷ []) end)
+      ∙ sym (map-append (end_under m n) tapes (tape ∷ []));
+}
