@@ -1,13 +1,18 @@
--- Laws of batches: one job more.
-use Rattle.std.proofs.Common.{◌≡◌, ℕ, ◌+◌, ◌<◌, List, [], ◌∷◌, ◌++◌, length, map, flat_map, slice_index_or, refl, sym, ap, ap₂, ◌∙◌, arith}
-use Rattle.std.proofs.lemmas.List.{get_or_push, get_or_append_left, map-append, length-append, append-nil}
+-- Laws of batches: one job more, and the first end that came early.
+use Rattle.std.proofs.Common.{◌≡◌, ℕ, ◌+◌, ◌<◌, List, [], ◌∷◌, ◌++◌, length, map, flat_map, slice_index_or, Option, Some, None, refl, sym, ap, ap₂, ◌∙◌, arith}
+use Rattle.std.proofs.lemmas.List.{get_or_push, get_or_append_left, map-append, get_or-map, length-append, append-nil}
 use Rattle.std.proofs.lemmas.List.Concat.{flat_map-append}
+use Rattle.std.specs.Option.{unwrap_or}
+use Rattle.fx_whole.specs.First.{first_to}
 use Rattle.fx_whole.specs.Joined.{joined}
+use Rattle.fx_whole.proofs.FirstLaws.{first_here, first_more, or_pass}
 use Rattle.fx_whole.proofs.JoinedLaws.{joined-more, joined-ext}
 use Rattle.mj_tape.specs.Judging.{TapeValues}
 use Rattle.mj_types.specs.declared.model.Model.{Model}
+use Rattle.mj_types.specs.declared.range.End.{End}
+use Rattle.mj_types.specs.declared.range.End.TheVariants as finish
 use Rattle.mj_run.specs.declared.job.RunJob.{RunJob}
-use Rattle.mj_run.specs.Batch.{no_tape, tape_at, driven_by, report_text, batch_text, end_under, due_report, due_end, AreJobsOf}
+use Rattle.mj_run.specs.Batch.{no_tape, tape_at, driven_by, report_text, batch_text, end_under, early, first_end, held_end, due_report, due_end, AreJobsOf}
 
 -- the text of a batch with one tape more
 pub batch-more : (m : Model) (n : ℕ) (tapes : List TapeValues) (tape : TapeValues)
@@ -37,3 +42,20 @@ jobs-more m n tapes tape jobs job report end given = record {
       ∙ ap₂ (λ xs ys. xs ++ ys) given.ends (ap (λ e. e ∷ []) end)
       ∙ sym (map-append (end_under m n) tapes (tape ∷ []));
 }
+
+-- the end that stands at a job's place in the list of ends
+pub held_end-at : (jobs : List RunJob) (i : ℕ) (job : RunJob) → i < length jobs → slice_index_or jobs i job ≡ job → slice_index_or (map held_end jobs) i finish.Done ≡ held_end job
+held_end-at jobs i job h is = get_or-map jobs i job finish.Done h ∙ ap held_end is
+
+-- the first end that came early
+pub first_end-here : (ends : List End) (i : ℕ) (end : End) → i < length ends → slice_index_or ends i finish.Done ≡ end → early end ≡ Some end
+    → first_to i (λ t. early (slice_index_or ends t finish.Done)) ≡ None → end ≡ first_end ends
+first_end-here ends i end h is here before =
+    sym (ap (λ o. unwrap_or o finish.Done) (first_here i (length ends) (λ t. early (slice_index_or ends t finish.Done)) end h before (ap early is ∙ here)))
+
+-- an end that didn't
+pub passed-end : (ends : List End) (i : ℕ) (end : End) → slice_index_or ends i finish.Done ≡ end → early end ≡ None
+    → first_to i (λ t. early (slice_index_or ends t finish.Done)) ≡ None → first_to (i + 1) (λ t. early (slice_index_or ends t finish.Done)) ≡ None
+passed-end ends i end is here before =
+    let f = λ (t : ℕ). early (slice_index_or ends t finish.Done) in
+    first_more i f ∙ or_pass (first_to i f) (f i) before ∙ ap early is ∙ here

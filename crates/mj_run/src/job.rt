@@ -3,7 +3,7 @@ ghost use Rattle.std.specs.Prelude.{◌≡◌, IsTrue, length};
 ghost use Rattle.mj_step.specs.Smooth.{is_smooth};
 ghost use Rattle.mj_step.specs.Workspace.{MadeFor};
 ghost use Rattle.mj_types.specs.States.{Fits};
-ghost use Rattle.mj_run.specs.Controls.{Serves};
+ghost use Rattle.mj_run.specs.Controls.{Serves, Serves-prop};
 ghost use Rattle.mj_run.specs.Run.{start};
 
 use crate::run::{Controls, Runner};
@@ -24,6 +24,7 @@ pub struct RunJob<'m> {
     pub ghost smooth: { IsTrue (is_smooth model.now) },
     pub ghost made: { MadeFor model.now runner.work },
     pub ghost fits: { Fits model.now runner.state },
-    pub ghost serves: { Serves controls (length model.now.motors) steps },
+    pub ghost serves: { Serves controls (length model.now.motors) steps }
+        by { Serves-prop controls (length model.now.motors) steps },
     pub ghost begins: { IsTrue is_fresh → runner.state ≡ start model.now },
 }

@@ -73,7 +73,7 @@ impl<'m> Job for RunJob<'m> {
 
 // Adds a job at the end.
 fn push<'m>(jobs: &mut Vec<RunJob<'m>>, job: RunJob<'m>) -> Result<(), NoMemory>
-    ensures { OnOk result (jobs.new.items ≡ jobs.old.items ++ job ∷ []) }
+    ensures { OnOk result (jobs.new.items ≡ jobs.old.items ++ job.entry ∷ []) }
 {
     match jobs.push(job) {
         Ok(()) => Ok(()),
