@@ -1,6 +1,6 @@
 -- Laws of batches: one job more, and the first end that came early.
 use Rattle.std.proofs.Common.{◌≡◌, ℕ, ◌+◌, ◌<◌, List, [], ◌∷◌, ◌++◌, length, map, flat_map, slice_index_or, Option, Some, None, refl, sym, ap, ap₂, ◌∙◌, arith}
-use Rattle.std.proofs.lemmas.List.{get_or_push, get_or_append_left, map-append, get_or-map, length-append, append-nil}
+use Rattle.std.proofs.lemmas.List.{get_or_push, get_or_append_left, map_push, length-append, append-nil}
 use Rattle.std.proofs.lemmas.List.Concat.{flat_map-append}
 use Rattle.std.specs.Option.{unwrap_or}
 use Rattle.fx_whole.specs.First.{first_to}
@@ -12,7 +12,7 @@ use Rattle.mj_types.specs.declared.model.Model.{Model}
 use Rattle.mj_types.specs.declared.range.End.{End}
 use Rattle.mj_types.specs.declared.range.End.TheVariants as finish
 use Rattle.mj_run.specs.declared.job.RunJob.{RunJob}
-use Rattle.mj_run.specs.Batch.{no_tape, tape_at, driven_by, report_text, batch_text, end_under, early, first_end, held_end, due_report, due_end, AreJobsOf}
+use Rattle.mj_run.specs.Batch.{no_tape, tape_at, driven_by, report_text, batch_text, end_under, early, first_end, due_report, due_end, AreJobsOf}
 
 -- the text of a batch with one tape more
 pub batch-more : (m : Model) (n : ℕ) (tapes : List TapeValues) (tape : TapeValues)
@@ -24,7 +24,7 @@ batch-more m n tapes tape =
     ap (λ k. joined k (report all)) count
     ∙ joined-more (length tapes) (report all)
     ∙ ap₂ (λ x y. x ++ y)
-      (joined-ext (length tapes) (report all) (report tapes) (λ t h. ap (λ x. report_text m (t + 1) (driven_by m x) n) (get_or_append_left tapes (tape ∷ []) t no_tape h)))
+      (joined-ext (length tapes) (report all) (report tapes) (λ t h. ap (λ x. report_text m (t + 1) (driven_by m x) n) (get_or_append_left tapes (tape ∷ []) no_tape t h)))
       (ap (λ x. report_text m (length tapes + 1) (driven_by m x) n) (get_or_push tapes tape no_tape (length tapes) refl))
 
 -- jobs with one more for it
@@ -38,14 +38,10 @@ jobs-more m n tapes tape jobs job report end given = record {
       ∙ ap₂ (λ x y. x ++ y) given.text (append-nil (due_report job) ∙ report ∙ ap (λ k. report_text m (k + 1) (driven_by m tape) n) given.many)
       ∙ sym (batch-more m n tapes tape);
   ends =
-      map-append due_end jobs (job ∷ [])
-      ∙ ap₂ (λ xs ys. xs ++ ys) given.ends (ap (λ e. e ∷ []) end)
-      ∙ sym (map-append (end_under m n) tapes (tape ∷ []));
+      map_push due_end jobs job
+      ∙ ap₂ (λ xs e. xs ++ e ∷ []) given.ends end
+      ∙ sym (map_push (end_under m n) tapes tape);
 }
-
--- the end that stands at a job's place in the list of ends
-pub held_end-at : (jobs : List RunJob) (i : ℕ) (job : RunJob) → i < length jobs → slice_index_or jobs i job ≡ job → slice_index_or (map held_end jobs) i finish.Done ≡ held_end job
-held_end-at jobs i job h is = get_or-map jobs i job finish.Done h ∙ ap held_end is
 
 -- the first end that came early
 pub first_end-here : (ends : List End) (i : ℕ) (end : End) → i < length ends → slice_index_or ends i finish.Done ≡ end → early end ≡ Some end

@@ -101,8 +101,10 @@ pub fn add_job<'m>(
         → spec.AreJobsOf model.now steps (tapes ++ spec.tape_values tape ∷ [])
         jobs.new.items) }
 {
-    let job = RunJob::new(alloc, model, jobs.len() + 1, Controls::Taped(tape), steps)?;
-    push(jobs, job)
+    let number = jobs.as_slice().len() + 1;
+    let job = RunJob::new(alloc, model, number, Controls::Taped(tape), steps)?;
+    push(jobs, job)?;
+    Ok(())
 }
 
 /// Runs each job once, by at most `workers` threads at a time. Takes no memory.
