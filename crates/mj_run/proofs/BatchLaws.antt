@@ -1,5 +1,5 @@
 -- Laws of batches: one job more, and the first end that came early.
-use Rattle.std.proofs.Common.{◌≡◌, ℕ, ◌+◌, ◌<◌, List, [], ◌∷◌, ◌++◌, length, map, flat_map, slice_index_or, Option, Some, None, refl, sym, ap, ap₂, ◌∙◌, arith}
+use Rattle.std.proofs.Common.{◌≡◌, ℕ, ◌+◌, ◌<◌, List, [], ◌∷◌, ◌++◌, length, slice_index_or, Some, None, refl, sym, ap, ap₂, ◌∙◌}
 use Rattle.std.proofs.lemmas.List.{get_or_push, get_or_append_left, map_push, length-append, append-nil}
 use Rattle.std.proofs.lemmas.List.Concat.{flat_map-append}
 use Rattle.std.specs.Option.{unwrap_or}
@@ -24,8 +24,8 @@ batch-more m n tapes tape =
     ap (λ k. joined k (report all)) count
     ∙ joined-more (length tapes) (report all)
     ∙ ap₂ (λ x y. x ++ y)
-      (joined-ext (length tapes) (report all) (report tapes) (λ t h. ap (λ x. report_text m (t + 1) (driven_by m x) n) (get_or_append_left tapes (tape ∷ []) no_tape t h)))
-      (ap (λ x. report_text m (length tapes + 1) (driven_by m x) n) (get_or_push tapes tape no_tape (length tapes) refl))
+    (joined-ext (length tapes) (report all) (report tapes) (λ t h. ap (λ x. report_text m (t + 1) (driven_by m x) n) (get_or_append_left tapes (tape ∷ []) no_tape t h)))
+    (ap (λ x. report_text m (length tapes + 1) (driven_by m x) n) (get_or_push tapes tape no_tape (length tapes) refl))
 
 -- jobs with one more for it
 pub jobs-more : (m : Model) (n : ℕ) (tapes : List TapeValues) (tape : TapeValues) (jobs : List RunJob) (job : RunJob)

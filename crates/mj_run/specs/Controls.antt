@@ -1,5 +1,5 @@
 -- The controls of each step: record k of the tape serves the step after k others, and without a tape every control is 0.
-use Rattle.std.specs.Prelude.{◌≡◌, ℕ, ◌*◌, ◌<◌, ◌≤◌, pos, List, map, take, drop, replicate, Option, Some, None}
+use Rattle.std.specs.Prelude.{◌≡◌, ℕ, ◌*◌, ◌≤◌, pos, List, map, take, drop, replicate, Option, Some, None}
 use Rattle.std.proofs.Props.{props}
 use Rattle.mj_types.specs.Control.{Control}
 use Rattle.mj_types.specs.Parts.{plain}

@@ -1,5 +1,5 @@
 -- What a run came to: sums over the steps that were done, and their largest gap and residual. This project's own.
-use Rattle.std.specs.Prelude.{ℕ, ◌+◌, ◌*◌, ◌^◌, ◌<◌, ◌≤◌, Bool, true, false, ℤ, pos, ◌-ℤ◌, unsigned_abs, List, ◌++◌}
+use Rattle.std.specs.Prelude.{ℕ, ◌*◌, ◌^◌, ◌<◌, ◌≤◌, Bool, true, false, pos, ◌-ℤ◌, unsigned_abs, List}
 use Rattle.fx_whole.specs.Counting.{count_to}
 use Rattle.fx_whole.specs.Sums.{sum_ℕ_to}
 use Rattle.mj_factor.specs.Residuals.{greatest_to}

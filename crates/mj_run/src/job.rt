@@ -24,7 +24,6 @@ pub struct RunJob<'m> {
     pub ghost smooth: { IsTrue (is_smooth model.now) },
     pub ghost made: { MadeFor model.now runner.work },
     pub ghost fits: { Fits model.now runner.state },
-    pub ghost serves: { Serves controls (length model.now.motors) steps }
-        by { Serves-prop controls (length model.now.motors) steps },
+    pub ghost serves: { Serves controls (length model.now.motors) steps } by { Serves-prop controls (length model.now.motors) steps },
     pub ghost begins: { IsTrue is_fresh → runner.state ≡ start model.now },
 }

@@ -1,6 +1,6 @@
 use Rattle.std.proofs.Common.{◌≡◌, ◌+◌, ◌∷◌, [], ◌++◌, length, subst, sym, ap, ◌∙◌, List}
 use Rattle.mj_run.specs.declared.job.RunJob.{RunJob}
-use Rattle.mj_run.specs.Batch.{tape_values, driven_by, report_text, end_under, due_report, AreJobsOf}
+use Rattle.mj_run.specs.Batch.{tape_values, driven_by, report_text, due_report, AreJobsOf}
 use Rattle.mj_run.proofs.BatchLaws.{jobs-more}
 use Rattle.mj_run.proofs.jobs.add_job.Goals as goal
 

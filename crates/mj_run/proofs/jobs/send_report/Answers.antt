@@ -1,4 +1,4 @@
-use Rattle.std.proofs.Common.{◌++◌, refl, sym, ap₂, length}
+use Rattle.std.proofs.Common.{◌++◌, refl, sym, ap₂}
 use Rattle.mj_io.proofs.Sent.{sent-then}
 use Rattle.mj_trace.specs.Summaries.{summary_text}
 use Rattle.mj_types.specs.Parts.{number_at}

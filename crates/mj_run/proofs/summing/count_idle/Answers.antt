@@ -1,4 +1,4 @@
-use Rattle.std.proofs.Common.{◌≡◌, ◌<◌, ◌≤◌, ◌+◌, ◌^◌, length, ap, ◌∙◌, arith}
+use Rattle.std.proofs.Common.{◌≡◌, length, ap, ◌∙◌, arith}
 use Rattle.fx_whole.specs.Counting.{count_to}
 use Rattle.fx_whole.proofs.CountLaws.{count_to-size}
 use Rattle.mj_types.specs.StepValues.{row}

@@ -1,13 +1,10 @@
-use Rattle.std.proofs.Common.{◌≡◌, ◌<◌, ◌+◌, ℕ, List, Some, None, length, refl, sym, subst, ap, ◌∙◌, arith}
+use Rattle.std.proofs.Common.{◌≡◌, List, length, refl, sym, subst, ap, ◌∙◌, arith}
 use Rattle.mj_passive.specs.Forces.{AreControls}
 use Rattle.mj_types.specs.Control.{Control}
-use Rattle.mj_types.specs.StepValues.{StepValues}
-use Rattle.mj_types.specs.declared.range.End.{End}
 use Rattle.mj_types.specs.declared.range.End.TheVariants as finish
-use Rattle.mj_types.specs.declared.rows.Summary.{Summary}
 use Rattle.mj_step.specs.Steps.{step_state, step_values, step_fault}
 use Rattle.mj_run.specs.Controls.{controls_at, tape_of}
-use Rattle.mj_run.specs.Run.{state_at, told_at, done_of, end_of}
+use Rattle.mj_run.specs.Run.{state_at, told_at}
 use Rattle.mj_run.specs.Summing.{summary_to}
 use Rattle.mj_run.proofs.ControlLaws.{controls-lawful}
 use Rattle.mj_run.proofs.Steps.{whole, done-early, end-early, state-more, passed-more, refused-here}
@@ -45,12 +42,12 @@ loop-done-preserved c =
     let so_far = c.loop-done.invariant in
     let row = c.at-row.ensures.value ∙ ap (λ w. controls_at w (tape_of controls) k) c.len.ensures in
     let told : step_values m s c.at-row.result.now ≡ told_at m driven k =
-        ap (step_values m s) row ∙ ap (λ x. step_values m x (driven k)) so_far.state in
+    ap (step_values m s) row ∙ ap (λ x. step_values m x (driven k)) so_far.state in
     let done : c.loop-done.sum.done ≡ k = ap (λ x. x.done) so_far.sums in
     let steps : c.loop-done.sum.steps ≡ c.args.steps = ap (λ x. x.steps) so_far.sums in
     let end : c.loop-done.sum.end ≡ finish.Done = ap (λ x. x.end) so_far.sums in
     let same : summary_to (told_at m driven) k c.args.steps finish.Done ≡ summary_to (told_at m driven) c.loop-done.sum.done c.loop-done.sum.steps c.loop-done.sum.end =
-        rw (done, steps, end) refl in
+    rw (done, steps, end) refl in
     record {
       made = c.in-Ok.ensures.made;
       fits = c.in-Ok.ensures.fits;
@@ -79,7 +76,7 @@ returns-in-Err c =
     let steps : c.loop-done.sum.steps ≡ c.args.steps = ap (λ x. x.steps) so_far.sums in
     let end : c.loop-done.sum.end ≡ finish.Done = ap (λ x. x.end) so_far.sums in
     let same : summary_to (told_at m driven) k c.args.steps finish.Done ≡ summary_to (told_at m driven) c.loop-done.sum.done c.loop-done.sum.steps c.loop-done.sum.end =
-        rw (done, steps, end) refl in
+    rw (done, steps, end) refl in
     record {
       made = c.in-Err.ensures.made;
       fits = c.in-Err.ensures.fits;
