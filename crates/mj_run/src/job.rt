@@ -1,6 +1,5 @@
 // A run as a job.
 ghost use Rattle.std.specs.Prelude.{◌≡◌, IsTrue, length};
-ghost use Rattle.mj_step.specs.Smooth.{is_smooth};
 ghost use Rattle.mj_step.specs.Workspace.{MadeFor};
 ghost use Rattle.mj_types.specs.States.{Fits};
 ghost use Rattle.mj_run.specs.Controls.{Serves, Serves-prop};
@@ -21,7 +20,6 @@ pub struct RunJob<'m> {
     pub steps: u32,
     pub summary: Summary,
     pub is_fresh: bool,
-    pub ghost smooth: { IsTrue (is_smooth model.now) },
     pub ghost made: { MadeFor model.now runner.work },
     pub ghost fits: { Fits model.now runner.state },
     pub ghost serves: { Serves controls (length model.now.motors) steps } by { Serves-prop controls (length model.now.motors) steps },

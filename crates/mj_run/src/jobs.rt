@@ -1,7 +1,6 @@
 // A batch: a run for each tape, as jobs that several threads do.
 ghost use Rattle.std.specs.Prelude.{◌≡◌, ◌+◌, ◌<◌, ◌≤◌, ◌++◌, ◌∷◌, [], ℕ, List, Some, None, false, IsTrue, IfOk, OnOk, length, map, flat_map};
 ghost use Rattle.mj_io.specs.Sent.{Sent};
-ghost use Rattle.mj_step.specs.Smooth.{is_smooth};
 ghost use Rattle.mj_tape.specs.Judging.{TapeValues};
 ghost use Rattle.mj_types.specs.declared.model.Model.{Model};
 ghost use Rattle.mj_run.specs.Batch as spec;
@@ -27,7 +26,6 @@ impl<'m> RunJob<'m> {
         controls: Controls,
         steps: u32,
     ) -> Result<RunJob<'m>, NoMemory>
-        requires smooth { IsTrue (is_smooth model.now) }
         requires serves { Serves controls (length model.now.motors) steps }
         ensures report { IfOk result (λ job. spec.due_report job ≡ spec.report_text model.now number
             (controls_at (length model.now.motors) (tape_of controls)) steps) }
@@ -92,7 +90,6 @@ pub fn add_job<'m>(
     tape: Tape,
     steps: u32,
 ) -> Result<(), NoMemory>
-    requires smooth { IsTrue (is_smooth model.now) }
     requires few { length jobs.old.items ≤ 64 }
     requires width { tape.width ≡ length model.now.motors }
     requires rows { steps ≤ tape.rows }

@@ -3,9 +3,8 @@ ghost use Rattle.std.specs.Prelude.{◌≡◌, ◌+◌, ◌-◌, ◌^◌, ◌<�
 ghost use Rattle.fx_whole.specs.First.{refusal_of};
 ghost use Rattle.mj_optimum.specs.Stop.{sweeps_of};
 ghost use Rattle.mj_passive.specs.Forces.{AreControls};
-ghost use Rattle.mj_step.specs.Smooth.{is_smooth};
 ghost use Rattle.mj_step.specs.Steps.{step_state, step_values, step_fault};
-ghost use Rattle.mj_step.specs.Workspace.{MadeFor};
+ghost use Rattle.mj_step.specs.Workspace.{MadeFor, HasGap};
 ghost use Rattle.mj_trace.specs.Block.{idle_count};
 ghost use Rattle.mj_types.specs.declared.state.State.{State};
 ghost use Rattle.mj_types.specs.States.{Fits};
@@ -97,8 +96,7 @@ fn is_limit(stop: Stop) -> bool
 
 // How far the cost is above its bound.
 fn gap(cert: &Cert) -> u128
-    requires order { cert.now.bound2 ≤ℤ cert.now.cost2 }
-    requires near { unsigned_abs (cert.now.cost2 -ℤ cert.now.bound2) ≤ 2 ^ 124 }
+    requires { HasGap cert.now }
     ensures { result ≡ unsigned_abs (cert.now.cost2 -ℤ cert.now.bound2) }
 {
     (cert.cost2 - cert.bound2).unsigned_abs()
@@ -145,9 +143,7 @@ fn ended(sum: Summary, end: End) -> Summary
 // The sums with one step more, which this report tells of.
 fn with_step(sum: Summary, report: &StepReport) -> Summary
     requires rows { length report.now.rows.list ≤ 1024 }
-    requires order { report.now.cert.bound2 ≤ℤ report.now.cert.cost2 }
-    requires near { unsigned_abs
-        (report.now.cert.cost2 -ℤ report.now.cert.bound2) ≤ 2 ^ 124 }
+    requires gap { HasGap report.now.cert }
     requires residual { pos 0 ≤ℤ report.now.residual }
     requires spare { spec.HasSpareSums sum }
     requires count { sum.done < 2 ^ 32 - 1 }
@@ -179,7 +175,6 @@ fn sum_step(
     controls: &[Fix<32>],
     sum: Summary,
 ) -> Result<Summary, OutOfRange>
-    requires smooth { IsTrue (is_smooth model.now) }
     requires made { MadeFor model.now runner.old.work }
     requires fits { Fits model.now runner.old.state }
     requires controls { AreControls model.now controls.now }
@@ -206,7 +201,6 @@ fn sum_step(
 /// so many steps comes to, and the runner holds the state after the last step that was done. Takes no
 /// memory.
 pub fn sum_run(model: &Model, runner: &mut Runner, controls: &Controls, steps: u32) -> Summary
-    requires smooth { IsTrue (is_smooth model.now) }
     requires made { MadeFor model.now runner.old.work }
     requires fits { Fits model.now runner.old.state }
     requires start { runner.old.state ≡ start model.now }

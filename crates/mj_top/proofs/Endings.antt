@@ -13,11 +13,12 @@ use Rattle.mj_types.specs.declared.tape.TapeFault.{TapeFault}
 use Rattle.mj_tape.specs.Judging.{TapeValues}
 use Rattle.mj_run.specs.Controls.{controls_at}
 use Rattle.mj_run.specs.Run.{end_of}
-use Rattle.mj_step.specs.Smooth.{is_smooth}
 use Rattle.mj_valid.specs.Judging.{told, judged_bytes}
-use Rattle.mj_top.specs.Words.{bad_place, model_of, step_count, tape_of}
-use Rattle.mj_top.specs.Outcome.{Outcome, IsOutcome, IsFileOutcome, IsWordsOutcome, words_refused, status_of, with_tape, with_tape_file, with_tape_name, with_model, model_refused, not_built, model_cap}
-use Rattle.mj_top.specs.Ends.{Answers, WritesNothing, HasCause, Completes, IsMeant, ReadRose, TapeRose, HasTapeCause, Ends, EndsOrMemory, unless_failed}
+use Rattle.mj_words.specs.declared.table.Command.{Command}
+use Rattle.mj_words.specs.declared.table.Command.TheVariants as command
+use Rattle.mj_words.specs.Words.{bad_place, command_of, model_of, step_count, tape_of, wants_dual}
+use Rattle.mj_top.specs.Outcome.{Outcome, IsOutcome, IsFileOutcome, IsCommandOutcome, IsWordsOutcome, words_refused, status_of, with_tape, with_tape_file, with_tape_name, with_model, model_cap}
+use Rattle.mj_top.specs.Ends.{Answers, WritesNothing, HasCause, Completes, RunReadRose, CommandReadRose, ReadRose, TapeRose, HasTapeCause, Ends, EndsOrMemory, unless_failed}
 
 -- a status that tells of an outcome, and of no fault
 abbrev pub IsTold : Status → Type 0
@@ -39,9 +40,9 @@ pub later-status_of : (end : End) → IsLater (status_of end)
 later-status_of finish.Done = tt
 later-status_of (finish.OutOfRange step kind index) = tt
 
-pub later-with_tape : (n : ℕ) (m : Model) (answer : Result TapeValues TapeFault) → IsLater (with_tape n m answer).status
-later-with_tape n m (Ok tape) = later-status_of (end_of m (controls_at (length m.motors) (Some tape)) n)
-later-with_tape n m (Err fault) = tt
+pub later-with_tape : (wants : Bool) (n : ℕ) (m : Model) (answer : Result TapeValues TapeFault) → IsLater (with_tape wants n m answer).status
+later-with_tape wants n m (Ok tape) = later-status_of (end_of m (controls_at (length m.motors) (Some tape)) n)
+later-with_tape wants n m (Err fault) = tt
 
 -- an answer with its cause is the outcome's where no count rose
 pub completes : (words : List (List ℕ)) (tells : Bool) (held : List ℕ → Option (List ℕ)) (answer : Status) (old new : Option (List ℕ)) (reads reads' : List ℕ → ℕ) (writes writes' : ℕ) → Answers (IsOutcome words held) answer old new → HasCause words tells held answer reads reads' writes writes' → Completes words tells held answer reads reads' writes writes'
@@ -171,17 +172,35 @@ tape_cause-earlier tape status.WriteFault reads between reads' writes writes' lo
 tape_cause-earlier tape status.Memory reads between reads' writes writes' lower cause = tt
 
 -- ---- outcomes are the same for files that are held alike
-with_tape_name-same : (held held' : List ℕ → Option (List ℕ)) (n : ℕ) (m : Model) (tape : Option (List ℕ)) → ((name : List ℕ) → held' name ≡ held name) → with_tape_name held' n m tape ≡ with_tape_name held n m tape
-with_tape_name-same held held' n m None same = refl
-with_tape_name-same held held' n m (Some name) same = ap (option_map (with_tape_file n m)) (same name)
+with_tape_name-same : (held held' : List ℕ → Option (List ℕ)) (wants : Bool) (n : ℕ) (m : Model) (tape : Option (List ℕ)) → ((name : List ℕ) → held' name ≡ held name)
+    → with_tape_name held' wants n m tape ≡ with_tape_name held wants n m tape
+with_tape_name-same held held' wants n m None same = refl
+with_tape_name-same held held' wants n m (Some name) same = ap (option_map (with_tape_file wants n m)) (same name)
 
-with_model-same : (held held' : List ℕ → Option (List ℕ)) (n : ℕ) (tape : Option (List ℕ)) (judged : Result Model ModelFault) → ((name : List ℕ) → held' name ≡ held name) → with_model held' n tape judged ≡ with_model held n tape judged
-with_model-same held held' n tape (Ok m) same = ap (λ o. cond (is_smooth m) o (Some (model_refused not_built))) (with_tape_name-same held held' n m tape same)
-with_model-same held held' n tape (Err fault) same = refl
+with_model-same : (held held' : List ℕ → Option (List ℕ)) (wants : Bool) (n : ℕ) (tape : Option (List ℕ)) (judged : Result Model ModelFault) → ((name : List ℕ) → held' name ≡ held name)
+    → with_model held' wants n tape judged ≡ with_model held wants n tape judged
+with_model-same held held' wants n tape (Ok m) same = with_tape_name-same held held' wants n m tape same
+with_model-same held held' wants n tape (Err fault) same = refl
 
--- the outcome of the model's file is the command's
-pub file_outcome-is : (words : List (List ℕ)) (held held' : List ℕ → Option (List ℕ)) (file bytes : List ℕ) → bad_place words ≡ None → ((name : List ℕ) → held' name ≡ held name) → held (model_of words) ≡ Some file → bytes ≡ take model_cap file → (o : Outcome) → IsFileOutcome held' (step_count words) (tape_of words) bytes o → IsOutcome words held o
-file_outcome-is words held held' file bytes good same kept e o meant =
+-- accepted words have the outcome of their command
+pub outcome-is : (words : List (List ℕ)) (held : List ℕ → Option (List ℕ)) (kind : Command) (o : Outcome) → bad_place words ≡ None → command_of words ≡ kind → IsCommandOutcome held kind words o → IsOutcome words held o
+outcome-is words held kind o good is meant =
     let P = λ (p : Option ℕ). IsWordsOutcome held words p o in
+    let Q = λ (k : Command). IsCommandOutcome held k words o in
+    subst P (sym good) (subst Q (sym is) meant)
+
+-- the outcome of the model's file is that of a run
+pub file_outcome-is : (words : List (List ℕ)) (held held' : List ℕ → Option (List ℕ)) (file bytes : List ℕ) → bad_place words ≡ None → command_of words ≡ command.Run → ((name : List ℕ) → held' name ≡ held name) → held (model_of words) ≡ Some file → bytes ≡ take model_cap file → (o : Outcome) → IsFileOutcome held' (wants_dual words) (step_count words) (tape_of words) bytes o → IsOutcome words held o
+file_outcome-is words held held' file bytes good run same kept e o meant =
     let Q = λ (b : List ℕ). told meant.0 ≡ judged_bytes b in
-    subst P (sym good) (file, kept, (meant.0, subst Q e meant.1, sym (with_model-same held held' (step_count words) (tape_of words) meant.0 same) ∙ meant.2))
+    outcome-is words held command.Run o good run
+    (file, kept, (meant.0, subst Q e meant.1, sym (with_model-same held held' (wants_dual words) (step_count words) (tape_of words) meant.0 same) ∙ meant.2))
+
+-- a read that failed in a run failed in the command
+pub run_read-rose : (words : List (List ℕ)) (tells : Bool) (held : List ℕ → Option (List ℕ)) (reads reads' : List ℕ → ℕ) → command_of words ≡ command.Run → RunReadRose words tells held reads reads' → ReadRose words tells held reads reads'
+run_read-rose words tells held reads reads' run rose =
+    let P = λ (k : Command). CommandReadRose k words tells held reads reads' in subst P (sym run) rose
+
+-- without a tape no read of one failed
+pub none-rose : {P : Type 0} (reads reads' : List ℕ → ℕ) → TapeRose None reads reads' → P
+none-rose reads reads' rose = absurd (let e = rose.1 in cc)

@@ -1,4 +1,2 @@
-pub mod Accepted
 pub mod Endings
-pub mod Firsts
 pub mod Served

@@ -1,5 +1,5 @@
 -- What an accepted tape serves.
-use Rattle.std.proofs.Common.{◌≡◌, ◌⊎◌, inl, inr, ℕ, ◌*◌, ◌^◌, ◌≤◌, unsigned_abs, pos, Bool, true, false, nat_lt, List, length, Option, Some, None, Result, Ok, Err, refl, sym, ap, arith, ltb-false, if◌then◌else◌}
+use Rattle.std.proofs.Common.{◌≡◌, ℕ, ◌≤◌, Bool, true, false, nat_lt, List, length, Option, Some, None, Ok, Err, refl, sym, ap, ltb-false, if◌then◌else◌}
 use Rattle.mj_types.specs.declared.tape.TapeFault.{TapeFault}
 use Rattle.mj_types.specs.declared.tape.TapeFault.TheVariants.{TooLarge, Short}
 use Rattle.mj_tape.specs.Judging.{TapeValues, tape_verdict, unless_short, records_of, first_fault, record_controls, file_limit}

@@ -5,9 +5,11 @@ use Rattle.mj_io.specs.Growth.{Grew, GrewPart}
 use Rattle.mj_types.specs.declared.model.Model.{Model}
 use Rattle.mj_types.specs.declared.status.Status.{Status}
 use Rattle.mj_types.specs.declared.status.Status.TheVariants as status
-use Rattle.mj_valid.specs.Judging.{Accepted, accepted_of, judged_bytes}
-use Rattle.mj_top.specs.Words.{bad_place, model_of, tape_of}
-use Rattle.mj_top.specs.Outcome.{Outcome, IsOutcome, words_refused, model_cap}
+use Rattle.mj_valid.specs.Judging.{accepted_of, judged_bytes}
+use Rattle.mj_words.specs.declared.table.Command.{Command}
+use Rattle.mj_words.specs.declared.table.Command.TheVariants as command
+use Rattle.mj_words.specs.Words.{bad_place, command_of, model_of, tape_of}
+use Rattle.mj_top.specs.Outcome.{Outcome, IsOutcome, model_cap}
 
 -- the status is the outcome's, and its whole text was written
 pub record EndsWhole (outcome : Outcome) (old : Option (List ℕ)) (answer : Status) (new : Option (List ℕ)) : Type 0 where
@@ -48,12 +50,23 @@ AcceptsModel words held =
 abbrev pub TapeRose : Option (List ℕ) → (List ℕ → ℕ) → (List ℕ → ℕ) → Type 0
 TapeRose tape reads reads' = (name : List ℕ) × (tape ≡ Some name) × Rose (reads name) (reads' name)
 
--- a read failed: the cabinet's count rose under the model's name; or under the tape's, and there,
--- where the cabinet tells, the model is accepted
+-- a read failed in a run: the cabinet's count rose under the model's name; or under the tape's, and
+-- there, where the cabinet tells, the model is accepted
+abbrev pub RunReadRose :
+    List (List ℕ) → Bool → (List ℕ → Option (List ℕ)) → (List ℕ → ℕ) → (List ℕ → ℕ) → Type 0
+RunReadRose words tells held reads reads' =
+    Rose (reads (model_of words)) (reads' (model_of words)) ⊎ (TapeRose (tape_of words) reads reads' × (IsTrue tells → AcceptsModel words held))
+
+-- a read failed in a command; one that generates its model reads no file
+abbrev pub CommandReadRose : Command
+    → List (List ℕ) → Bool → (List ℕ → Option (List ℕ)) → (List ℕ → ℕ) → (List ℕ → ℕ) → Type 0
+CommandReadRose command.Run words tells held reads reads' = RunReadRose words tells held reads reads'
+CommandReadRose command.Gen words tells held reads reads' = ⊥
+
 abbrev pub ReadRose :
     List (List ℕ) → Bool → (List ℕ → Option (List ℕ)) → (List ℕ → ℕ) → (List ℕ → ℕ) → Type 0
 ReadRose words tells held reads reads' =
-    Rose (reads (model_of words)) (reads' (model_of words)) ⊎ (TapeRose (tape_of words) reads reads' × (IsTrue tells → AcceptsModel words held))
+    CommandReadRose (command_of words) words tells held reads reads'
 
 -- an answer that is an outcome's
 abbrev pub IsMeant : (Outcome → Type 0) → Status → Type 0

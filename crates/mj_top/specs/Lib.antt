@@ -1,4 +1,2 @@
-pub mod Accepted
 pub mod Ends
 pub mod Outcome
-pub mod Words

@@ -4,7 +4,6 @@
 #[cfg(test)]
 mod tests;
 pub mod top;
-mod words;
 
+pub use mj_words::accepted_words_have_no_bad_place;
 pub use top::run_words;
-pub use words::accepted_words_have_no_bad_place;

@@ -1,8 +1,10 @@
 // Runs through the top call, with their exact bytes.
 ghost use Rattle.std.specs.Prelude.{◌≤◌};
 
+mod generated;
 mod models;
 mod ranges;
+mod rows;
 mod runs;
 mod tape;
 
@@ -248,9 +250,4 @@ fn steps_share_a_write(rt: HostRuntime) -> Result<(), Fail> {
         assert_eq!(rt; sink.held().ends_with(b"end done\n"), code == 0);
     }
     Ok(())
-}
-
-#[test]
-fn the_law_of_words_can_be_cited() {
-    crate::accepted_words_have_no_bad_place();
 }

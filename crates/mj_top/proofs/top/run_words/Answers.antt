@@ -1,8 +1,8 @@
-use Rattle.std.proofs.Common.{◌≡◌, List, ℕ, map, string_bytes, sym, Some, None, Option, refl, ap, subst}
+use Rattle.std.proofs.Common.{◌≡◌, List, ℕ, map, string_bytes, sym, Some, Option, refl, ap, subst}
 use Rattle.mj_types.specs.declared.model.Model.{Model}
 use Rattle.mj_types.specs.Control.{Control}
 use Rattle.mj_run.specs.Run.{state_at}
-use Rattle.mj_top.specs.Words.{bad_place}
+use Rattle.mj_words.specs.Words.{bad_place}
 use Rattle.mj_top.specs.Outcome.{Outcome, IsOutcome, IsWordsOutcome, words_refused}
 use Rattle.mj_top.proofs.Endings.{answers-from_ends, nothing-from_ends, cause-from_refused, completes}
 use Rattle.mj_top.proofs.top.run_words.Goals as goal
@@ -30,6 +30,7 @@ returns-in-Some g c =
       cause = cause;
       complete = λ told. completes words tells held answer (g.S.Sink.holds before) (g.S.Sink.holds after) counts counts (g.S.Sink.faults before) (g.S.Sink.faults after) answers cause;
       covered = λ (m : Model) (controls : ℕ → List Control) (k : ℕ). c.steps_are_covered.ensures m (state_at m controls k) (controls k);
+      certified = λ (m : Model) (controls : ℕ → List Control) (k : ℕ). c.steps_are_certified.ensures m (state_at m controls k) (controls k);
     }
 
 pub returns-in-None-clause-complete : goal.returns-in-None-clause-complete
@@ -42,3 +43,6 @@ returns-in-None-clause-complete g c = λ told.
 
 pub returns-in-None-clause-covered : goal.returns-in-None-clause-covered
 returns-in-None-clause-covered g c = λ (m : Model) (controls : ℕ → List Control) (k : ℕ). c.steps_are_covered.ensures m (state_at m controls k) (controls k)
+
+pub returns-in-None-clause-certified : goal.returns-in-None-clause-certified
+returns-in-None-clause-certified g c = λ (m : Model) (controls : ℕ → List Control) (k : ℕ). c.steps_are_certified.ensures m (state_at m controls k) (controls k)

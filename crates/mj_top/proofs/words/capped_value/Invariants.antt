@@ -1,6 +1,0 @@
-use Rattle.std.proofs.Common.{◌≡◌, ◌+◌, min, take}
-use Rattle.mj_top.specs.Words.{digits_value}
-use Rattle.mj_top.proofs.words.capped_value.Given as goal
-
-abbrev pub invariant-loop-digit : goal.invariant-loop-digit
-invariant-loop-digit l = l.n ≡ min (digits_value (take l.digit-index l.digits)) (l.most + 1)

@@ -1,0 +1,14 @@
+//! The words after the program's name: which are accepted, and what they ask for.
+#![tactic(auto)]
+
+mod numbers;
+pub mod table;
+#[cfg(test)]
+mod tests;
+pub mod words;
+
+pub use table::{Command, Name};
+pub use words::{
+    accepted_words_have_no_bad_place, bad_place, command_of, link_count, model_of, nth_tape,
+    seed_of, step_count, tape_count, tape_of, wants_dual,
+};

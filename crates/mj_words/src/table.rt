@@ -1,0 +1,184 @@
+// The table of commands.
+ghost use Rattle.std.specs.Prelude.{◌≡◌};
+ghost use Rattle.mj_words.specs.Table as spec;
+
+/// A command.
+#[derive(Clone, Copy, Debug)]
+pub enum Command {
+    /// A model runs, and its steps are traced.
+    Run,
+    /// A model is generated.
+    Gen,
+}
+
+/// A name, after which a value stands.
+#[derive(Clone, Copy, Debug)]
+pub enum Name {
+    /// The file of a model.
+    Model,
+    /// How many steps are run.
+    Steps,
+    /// The file of a tape.
+    Tape,
+    /// Whether the trace shows each step's dual.
+    Dual,
+    /// How many links a generated model has.
+    Links,
+    /// What a generated model is drawn from.
+    Seed,
+}
+
+/// What values a name takes.
+#[derive(Clone, Copy, Debug)]
+pub enum Form {
+    /// The name of a file: 1 to 4,096 bytes.
+    FileName,
+    /// `yes` or `no`.
+    YesNo,
+    /// A number within these.
+    Number { least: u32, most: u32 },
+}
+
+/// How a command takes a name.
+#[derive(Clone, Copy, Debug)]
+pub struct Rule {
+    /// How often it may stand.
+    pub times: usize,
+    /// Whether it must stand.
+    pub required: bool,
+    /// What values it takes.
+    pub form: Form,
+}
+
+impl Command {
+    /// The command that a text is.
+    pub fn named(text: &str) -> Option<Command>
+        ensures { result ≡ spec.command_named text.now }
+    {
+        if text == "run" {
+            Some(Command::Run)
+        } else if text == "gen" {
+            Some(Command::Gen)
+        } else {
+            None
+        }
+    }
+
+    /// How it takes a name.
+    pub fn rule(self, name: Name) -> Rule
+        ensures { result ≡ spec.rule self name }
+    {
+        match self {
+            Command::Run => run_rule(name),
+            Command::Gen => gen_rule(name),
+        }
+    }
+
+    /// How it takes a text in a name's place.
+    pub fn rule_of(self, text: &str) -> Rule
+        ensures { result ≡ spec.rule_of self text.now }
+    {
+        match Name::of(text) {
+            Some(name) => self.rule(name),
+            None => foreign(),
+        }
+    }
+}
+
+impl Name {
+    /// Its text.
+    pub fn text(self) -> &'static str
+        ensures { result.now ≡ spec.text_of self }
+    {
+        match self {
+            Name::Model => "--model",
+            Name::Steps => "--steps",
+            Name::Tape => "--tape",
+            Name::Dual => "--dual",
+            Name::Links => "--links",
+            Name::Seed => "--seed",
+        }
+    }
+
+    /// The name that a text is.
+    pub fn of(text: &str) -> Option<Name>
+        ensures { result ≡ spec.name_of text.now }
+    {
+        if text == "--model" {
+            Some(Name::Model)
+        } else if text == "--steps" {
+            Some(Name::Steps)
+        } else if text == "--tape" {
+            Some(Name::Tape)
+        } else if text == "--dual" {
+            Some(Name::Dual)
+        } else if text == "--links" {
+            Some(Name::Links)
+        } else if text == "--seed" {
+            Some(Name::Seed)
+        } else {
+            None
+        }
+    }
+}
+
+// A name that must stand, once.
+fn required(form: Form) -> Rule
+    ensures { result ≡ spec.required form }
+{
+    Rule {
+        times: 1,
+        required: true,
+        form,
+    }
+}
+
+// A name that may stand, once.
+fn optional(form: Form) -> Rule
+    ensures { result ≡ spec.optional form }
+{
+    Rule {
+        times: 1,
+        required: false,
+        form,
+    }
+}
+
+// A name that the command doesn't take.
+fn foreign() -> Rule
+    ensures { result ≡ spec.foreign }
+{
+    Rule {
+        times: 0,
+        required: false,
+        form: Form::FileName,
+    }
+}
+
+fn run_rule(name: Name) -> Rule
+    ensures { result ≡ spec.run_rule name }
+{
+    match name {
+        Name::Model => required(Form::FileName),
+        Name::Steps => required(Form::Number {
+            least: 0,
+            most: 1_000_000,
+        }),
+        Name::Tape => optional(Form::FileName),
+        Name::Dual => optional(Form::YesNo),
+        _ => foreign(),
+    }
+}
+
+fn gen_rule(name: Name) -> Rule
+    ensures { result ≡ spec.gen_rule name }
+{
+    match name {
+        Name::Links => required(Form::Number { least: 1, most: 64 }),
+        Name::Seed => required(Form::Number {
+            least: 0,
+            most: 4_294_967_295,
+        }),
+        _ => foreign(),
+    }
+}
