@@ -1,5 +1,5 @@
 -- Records of a tape as lists of controls.
-use Rattle.std.proofs.Common.{◌≡◌, ℕ, suc, ◌+◌, ◌*◌, ◌^◌, ◌<◌, ◌≤◌, ℤ, pos, unsigned_abs, List, All, map, take, drop, length, replicate, refl, sym, ap, ◌∙◌, arith, mul-le-mul_right}
+use Rattle.std.proofs.Common.{◌≡◌, ℕ, suc, ◌+◌, ◌*◌, ◌<◌, ◌≤◌, ℤ, pos, unsigned_abs, List, map, take, drop, length, replicate, ap, ◌∙◌, arith, mul-le-mul_right}
 use Rattle.std.proofs.lemmas.List.{drop-map, take-map, map-id, length-take-le, length-drop, length-replicate}
 use Rattle.std.proofs.lemmas.List.Elements.{All-take, All-drop, All-replicate, All-get_or}
 use Rattle.std.proofs.lemmas.Simd.{map-map}
