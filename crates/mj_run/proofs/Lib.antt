@@ -1,2 +1,4 @@
+pub mod BatchLaws
 pub mod ControlLaws
+pub mod StateLaws
 pub mod Steps

@@ -1,5 +1,6 @@
 -- The controls of each step: record k of the tape serves the step after k others, and without a tape every control is 0.
 use Rattle.std.specs.Prelude.{◌≡◌, ℕ, ◌*◌, ◌<◌, ◌≤◌, pos, List, map, take, drop, replicate, Option, Some, None}
+use Rattle.std.proofs.Props.{props}
 use Rattle.mj_types.specs.Control.{Control}
 use Rattle.mj_types.specs.Parts.{plain}
 use Rattle.mj_tape.specs.Judging.{TapeValues, raws}
@@ -20,3 +21,8 @@ tape_of (controls.Taped tape) = Some (record { rows = tape.rows; width = tape.wi
 abbrev pub Serves : Controls → ℕ → ℕ → Type 0
 Serves (controls.Rest zeros) width steps = zeros ≡ replicate width (plain (pos 0))
 Serves (controls.Taped tape) width steps = (tape.width ≡ width) × (steps ≤ tape.rows)
+
+-- which is a fact: it holds in one way at most
+pub Serves-prop : (c : Controls) (width steps : ℕ) → IsProp (Serves c width steps)
+Serves-prop (controls.Rest zeros) width steps = hlevel props
+Serves-prop (controls.Taped tape) width steps = hlevel props

@@ -1,2 +1,4 @@
+pub mod Batch
 pub mod Controls
 pub mod Run
+pub mod Summing

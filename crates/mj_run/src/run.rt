@@ -40,7 +40,7 @@ impl Controls {
     }
 
     /// The controls of the step after `done` others, of a run of `steps` steps of `width` motors.
-    fn at(&self, width: usize, steps: u32, done: u32) -> &[Fix<32>]
+    pub(crate) fn at(&self, width: usize, steps: u32, done: u32) -> &[Fix<32>]
         requires serves { spec.Serves self.now width steps }
         requires step { done < steps }
         ensures value { result.now ≡ spec.controls_at width (spec.tape_of self.now) done }
@@ -89,7 +89,7 @@ impl Runner {
 }
 
 // The end of a run whose step after `done` others is refused.
-fn early_end(done: u32, out: &OutOfRange) -> End
+pub(crate) fn early_end(done: u32, out: &OutOfRange) -> End
     ensures { result ≡ End.OutOfRange (done + 1) out.now.kind out.now.index }
 {
     End::OutOfRange {
