@@ -28,5 +28,5 @@ returns g c =
     ∙ ap (λ last. summary_text m.nq m.nv (summary_of m driven n) (number_at last.q) (number_at last.v)) c.sum_run-sum.ensures.state in
     ends-from_wrote g.S.Sink.holds g.S.Sink.faults c.args.sink.now c.finish-written.new.sink c.finish-written.result (summed n m (tape_of c.args.controls.now)) c.answered.result
     (told-status_of (end_of m driven n))
-    (wrote-finished c.finish-written.result c.new-page.ensures (rw (sym text) c.send_summary.ensures) c.finish-written.ensures.sent)
+    (wrote-finished c.finish-written.result c.new-page.ensures (rw (sym text) c.send_summary.ensures.sent) c.finish-written.ensures.sent)
     (c.answered.ensures ∙ ap (unless_failed c.finish-written.result) (c.status_of.ensures ∙ ap (λ sum. status_of sum.end) c.sum_run-sum.ensures.summary))

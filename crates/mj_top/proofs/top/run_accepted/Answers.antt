@@ -31,7 +31,7 @@ returns-in-Bench g c =
     let tells = g.C.Cabinet.tells c.args.cabinet.now in
     let held = g.C.Cabinet.holds c.args.cabinet.now in
     let counts = g.C.Cabinet.faults c.args.cabinet.now in
-    let seed = c.seed_of.result in
+    let seed = c.seed_of-in-Bench.result in
     let links = c.bench_link_count.result in
     let n = c.bench_step_count.result in
     let within : (o : Outcome) → IsBenchOutcome seed links n o → IsOutcome words held o =
@@ -40,7 +40,7 @@ returns-in-Bench g c =
     let Q = λ (x : ℕ). IsBenchOutcome (seed_of words) x n o in
     let R = λ (x : ℕ). IsBenchOutcome (seed_of words) (link_count words) x o in
     outcome-is words held command.Bench o c.requires (sym c.in-Bench.ensures)
-    (subst R c.bench_step_count.ensures.value (subst Q c.bench_link_count.ensures.value (subst P c.seed_of.ensures meant))) in
+    (subst R c.bench_step_count.ensures.value (subst Q c.bench_link_count.ensures.value (subst P c.seed_of-in-Bench.ensures meant))) in
     let before = c.args.sink.now in
     let after = c.bench.new.sink in
     record {
