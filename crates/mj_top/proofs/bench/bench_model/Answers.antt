@@ -4,7 +4,7 @@ use Rattle.mj_gen.specs.Tape.{tape_text}
 use Rattle.mj_step.specs.Smooth.{is_smooth}
 use Rattle.mj_tape.specs.Judging.{tape_verdict}
 use Rattle.mj_types.specs.declared.status.ModelFault.{ModelFault}
-use Rattle.mj_top.specs.Outcome.{Outcome, benched, with_summed_tape, tape_room, model_refused, not_built}
+use Rattle.mj_top.specs.Outcome.{Outcome, with_summed_tape, tape_room, model_refused, not_built}
 use Rattle.mj_top.specs.Ends.{Ends, EndsOrMemory}
 use Rattle.mj_top.proofs.bench.bench_model.Goals as goal
 

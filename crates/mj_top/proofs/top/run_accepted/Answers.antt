@@ -1,6 +1,6 @@
 use Rattle.std.proofs.Common.{◌≡◌, ◌∙◌, ℕ, map, string_bytes, sym, ap, None, subst}
 use Rattle.mj_words.specs.declared.table.Command.TheVariants as command
-use Rattle.mj_words.specs.Words.{seed_of, link_count, step_count}
+use Rattle.mj_words.specs.Words.{seed_of, link_count}
 use Rattle.mj_top.specs.Outcome.{Outcome, IsOutcome, IsBenchOutcome, generated}
 use Rattle.mj_top.proofs.Endings.{answers-from_either, nothing-from_either, tape_cause-from_either, cause-from_tape, none-rose, outcome-is, answers-within, answers-from_meant, nothing-from_meant, tape_cause-from_meant, bench-later}
 use Rattle.mj_top.proofs.top.run_accepted.Goals as goal
