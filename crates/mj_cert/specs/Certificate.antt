@@ -1,6 +1,7 @@
 -- The numbers of a certificate, and the first of them that is out of its range. The certificate is this project's own.
-use Rattle.std.specs.Prelude.{◌≡◌, ℕ, suc, ◌<◌, pos, Option}
+use Rattle.std.specs.Prelude.{◌≡◌, ℕ, suc, ◌<◌, ℤ, pos, Option}
 use Rattle.fx_whole.specs.First.{or_first, first_to}
+use Rattle.mj_optimum.specs.Problem.{Problem}
 use Rattle.mj_optimum.specs.Cost.{cost}
 use Rattle.mj_optimum.specs.Shortfall.{bound2}
 use Rattle.mj_optimum.specs.Box.{rise_up, rise_down, lo, hi}
@@ -14,20 +15,31 @@ use Rattle.mj_types.specs.Parts.{number_at}
 use Rattle.mj_types.specs.Problems.{problem, forces, place}
 use Rattle.mj_types.specs.Ranges.{limited}
 
+-- ---- the first number out of range, of forces f of a problem; `place` numbers the rows
 -- of row i: the sum of the shortfalls so far
-abbrev pub shortfall_out : Dual → Forces → ℕ → Option OutOfRange
-shortfall_out d x i = limited kind.Shortfall (place d i) shortfall_limit (shortfall_to (problem d) (forces x) (suc i))
+abbrev pub shortfall_fault : Problem → (ℕ → ℕ) → (ℕ → ℤ) → ℕ → Option OutOfRange
+shortfall_fault p place f i = limited kind.Shortfall (place i) shortfall_limit (shortfall_to p f (suc i))
 
 -- how far the box goes up, and then down, where no bound ends it
-abbrev pub box_out : Dual → Forces → ℕ → Option OutOfRange
-box_out d x i =
+abbrev pub box_fault : Problem → (ℕ → ℕ) → (ℕ → ℤ) → ℕ → Option OutOfRange
+box_fault p place f i =
     or_first
-    (limited kind.Box (place d i) box_limit (pos (where_open ((problem d).high i) (rise_up (problem d) (forces x) i))))
-    (limited kind.Box (place d i) box_limit (pos (where_open ((problem d).low i) (rise_down (problem d) (forces x) i))))
+    (limited kind.Box (place i) box_limit (pos (where_open (p.high i) (rise_up p f i))))
+    (limited kind.Box (place i) box_limit (pos (where_open (p.low i) (rise_down p f i))))
 
 -- all shortfalls, and then the box
+abbrev pub certificate_fault : Problem → (ℕ → ℕ) → (ℕ → ℤ) → Option OutOfRange
+certificate_fault p place f = or_first (first_to p.m (shortfall_fault p place f)) (first_to p.m (box_fault p place f))
+
+-- ---- the same of a dual
+abbrev pub shortfall_out : Dual → Forces → ℕ → Option OutOfRange
+shortfall_out d x = shortfall_fault (problem d) (place d) (forces x)
+
+abbrev pub box_out : Dual → Forces → ℕ → Option OutOfRange
+box_out d x = box_fault (problem d) (place d) (forces x)
+
 abbrev pub certificate_out : Dual → Forces → Option OutOfRange
-certificate_out d x = or_first (first_to d.m (shortfall_out d x)) (first_to d.m (box_out d x))
+certificate_out d x = certificate_fault (problem d) (place d) (forces x)
 
 -- the numbers of a certificate
 pub record IsCertificate (d : Dual) (x : Forces) (c : Cert) : Type 0 where

@@ -1,5 +1,5 @@
 -- Laws of runs: how many steps are done, how a run ends, and the text of its blocks.
-use Rattle.std.proofs.Common.{◌≡◌, ℕ, zero, suc, ◌+◌, ◌-◌, ◌<◌, ◌≤◌, ◌⊎◌, inl, inr, List, [], ◌++◌, Option, Some, None, option_map, refl, sym, ap, ◌∙◌, arith}
+use Rattle.std.proofs.Common.{◌≡◌, ℕ, zero, suc, ◌+◌, ◌-◌, ◌<◌, ◌≤◌, ◌⊎◌, inl, inr, List, [], ◌++◌, Bool, Option, Some, None, option_map, refl, sym, ap, ◌∙◌, arith}
 use Rattle.std.specs.Option.{unwrap_or}
 use Rattle.std.proofs.lemmas.Bool.{cases_lt}
 use Rattle.fx_whole.specs.First.{first_to}
@@ -11,9 +11,9 @@ use Rattle.mj_types.specs.declared.range.OutOfRange.{OutOfRange}
 use Rattle.mj_types.specs.declared.range.End.TheVariants as finish
 use Rattle.mj_types.specs.declared.state.State.{State}
 use Rattle.mj_types.specs.Control.{Control}
-use Rattle.mj_step.specs.Steps.{step_state, step_values, step_fault}
+use Rattle.mj_step.specs.Steps.{step_state, step_values, dual_at, step_fault}
 use Rattle.mj_trace.specs.Block.{block_text}
-use Rattle.mj_run.specs.Run.{state_at, block_at, blocks_text, refusal_at, done_of, end_of}
+use Rattle.mj_run.specs.Run.{asked, state_at, block_at, blocks_text, refusal_at, done_of, end_of}
 
 -- where no row holds a fault, none is mapped
 mapped_none : {F G : Type 0} (n : ℕ) (f : ℕ → Option F) (g : ℕ → F → G) → first_to n f ≡ None → first_to n (λ k. option_map (g k) (f k)) ≡ None
@@ -50,10 +50,10 @@ module _ (m : Model) (controls : ℕ → List Control) where
   end-early k n out h none here = ap (λ o. unwrap_or o finish.Done) (mapped_here k n (refusal_at m controls) (λ j out. finish.OutOfRange (j + 1) out.kind out.index) out h none here)
 
   -- the blocks of a longer run begin with those of a shorter one
-  pub blocks-prefix : (k n : ℕ) → k ≤ n → (y : List ℕ) × (blocks_text m controls n ≡ blocks_text m controls k ++ y)
-  blocks-prefix k n h =
+  pub blocks-prefix : (wants : Bool) (k n : ℕ) → k ≤ n → (y : List ℕ) × (blocks_text m controls wants n ≡ blocks_text m controls wants k ++ y)
+  blocks-prefix wants k n h =
       let parts : n ≡ k + (n - k) = omega arith in
-      (joined (n - k) (λ i. block_at m controls (k + i)), ap (blocks_text m controls) parts ∙ joined-split k (n - k) (block_at m controls))
+      (joined (n - k) (λ i. block_at m controls wants (k + i)), ap (blocks_text m controls wants) parts ∙ joined-split k (n - k) (block_at m controls wants))
 
   -- the steps that weren't refused are done
   pub done-least : (k n : ℕ) → k ≤ n → first_to k (refusal_at m controls) ≡ None → k ≤ done_of m controls n
@@ -90,7 +90,9 @@ module _ (m : Model) (controls : ℕ → List Control) where
   refused-here k s out here now = ap (λ x. step_fault m x (controls k)) (sym here) ∙ now
 
   -- the text of one more step
-  pub text-more : (k : ℕ) (s : State) → s ≡ state_at m controls k → blocks_text m controls (k + 1) ≡ blocks_text m controls k ++ block_text m.format m.nq m.nv (k + 1) (step_values m s (controls k)) None
-  text-more k s here =
-      joined-more k (block_at m controls)
-      ∙ ap (λ x. blocks_text m controls k ++ block_text m.format m.nq m.nv (k + 1) (step_values m x (controls k)) None) (sym here)
+  pub text-more : (wants : Bool) (k : ℕ) (s : State) → s ≡ state_at m controls k
+      → blocks_text m controls wants (k + 1)
+      ≡ blocks_text m controls wants k ++ block_text m.format m.nq m.nv (k + 1) (step_values m s (controls k)) (asked wants (dual_at m s (controls k)))
+  text-more wants k s here =
+      joined-more k (block_at m controls wants)
+      ∙ ap (λ x. blocks_text m controls wants k ++ block_text m.format m.nq m.nv (k + 1) (step_values m x (controls k)) (asked wants (dual_at m x (controls k)))) (sym here)

@@ -1,5 +1,5 @@
 -- A run: its steps one after another, until one has a number out of range.
-use Rattle.std.specs.Prelude.{◌≡◌, ℕ, zero, suc, ◌+◌, ◌*◌, ◌^◌, ◌<◌, ◌≤◌, ℤ, pos, ◌-ℤ◌, ◌*ℤ◌, true, unsigned_abs, List, ◌++◌, Option, None, option_map}
+use Rattle.std.specs.Prelude.{◌≡◌, ℕ, zero, suc, ◌+◌, ◌*◌, ◌^◌, ◌<◌, ◌≤◌, ℤ, pos, ◌-ℤ◌, ◌*ℤ◌, true, unsigned_abs, List, ◌++◌, Bool, cond, Option, Some, None, option_map}
 use Rattle.std.specs.Option.{unwrap_or}
 use Rattle.fx_whole.specs.First.{first_to}
 use Rattle.fx_whole.specs.Joined.{joined}
@@ -9,14 +9,18 @@ use Rattle.mj_types.specs.declared.range.End.{End}
 use Rattle.mj_types.specs.declared.range.End.TheVariants as finish
 use Rattle.mj_types.specs.declared.state.State.{State}
 use Rattle.mj_types.specs.Control.{Control}
-use Rattle.mj_types.specs.StepValues.{StepValues}
-use Rattle.mj_step.specs.Steps.{step_state, step_values, step_fault}
+use Rattle.mj_types.specs.StepValues.{StepValues, DualValues}
+use Rattle.mj_step.specs.Steps.{step_state, step_values, dual_at, step_fault}
 use Rattle.mj_trace.specs.Block.{block_text}
 use Rattle.mj_trace.specs.Trace.{header_text, end_text}
 
 -- where a run starts
 abbrev pub start : Model → State
 start m = record { q = m.qpos0; v = m.qvel0 }
+
+-- a dual, where it is asked for
+abbrev pub asked : Bool → DualValues → Option DualValues
+asked wants dual = cond wants (Some dual) None
 
 -- a model, and the controls of the step after k others
 module _ (m : Model) (controls : ℕ → List Control) where
@@ -42,15 +46,15 @@ module _ (m : Model) (controls : ℕ → List Control) where
   end_of n =
       unwrap_or (first_to n (λ k. option_map (λ out. finish.OutOfRange (k + 1) out.kind out.index) (refusal_at k))) finish.Done
 
-  -- ---- the trace: the header, a block for each step that is done, and the end
-  abbrev pub block_at : ℕ → List ℕ
-  block_at k = block_text m.format m.nq m.nv (k + 1) (told_at k) None
+  -- ---- the trace: the header, a block for each step that is done, with its dual where that is asked for, and the end
+  abbrev pub block_at : Bool → ℕ → List ℕ
+  block_at wants k = block_text m.format m.nq m.nv (k + 1) (told_at k) (asked wants (dual_at m (state_at k) (controls k)))
 
-  abbrev pub blocks_text : ℕ → List ℕ
-  blocks_text k = joined k block_at
+  abbrev pub blocks_text : Bool → ℕ → List ℕ
+  blocks_text wants k = joined k (block_at wants)
 
-  abbrev pub done_blocks : ℕ → List ℕ
-  done_blocks n = blocks_text (done_of n)
+  abbrev pub done_blocks : Bool → ℕ → List ℕ
+  done_blocks wants n = blocks_text wants (done_of n)
 
-  abbrev pub trace_text : ℕ → List ℕ
-  trace_text n = (header_text m.format m.nq m.nv n ++ done_blocks n) ++ end_text (end_of n)
+  abbrev pub trace_text : Bool → ℕ → List ℕ
+  trace_text wants n = (header_text m.format m.nq m.nv n ++ done_blocks wants n) ++ end_text (end_of n)

@@ -3,13 +3,14 @@ ghost use Rattle.std.specs.Prelude.{◌≡◌, ◌+◌, ◌-◌, ◌*◌, ◌<�
 ghost use Rattle.fx_whole.specs.First.{refusal_of};
 ghost use Rattle.mj_io.specs.Sent.{Sent};
 ghost use Rattle.mj_passive.specs.Forces.{AreControls};
-ghost use Rattle.mj_step.specs.Smooth.{is_smooth};
-ghost use Rattle.mj_step.specs.Steps.{step_state, step_values, step_fault};
+ghost use Rattle.mj_step.specs.Steps.{step_state, step_values, dual_at, step_fault};
 ghost use Rattle.mj_step.specs.Workspace.{MadeFor};
 ghost use Rattle.mj_trace.specs.Block.{block_text};
+ghost use Rattle.mj_trace.specs.Reports.{HasForces};
 ghost use Rattle.mj_types.specs.States.{Fits};
+ghost use Rattle.mj_types.specs.StepValues.{values_of, dual_values};
 ghost use Rattle.mj_run.specs.Controls as spec;
-ghost use Rattle.mj_run.specs.Run.{start, end_of, done_blocks, trace_text};
+ghost use Rattle.mj_run.specs.Run.{asked, start, end_of, done_blocks, trace_text};
 
 use fx_list::Array;
 use fx_num::{Fix, Number};
@@ -99,6 +100,25 @@ pub(crate) fn early_end(done: u32, out: &OutOfRange) -> End
     }
 }
 
+// The block of a step that was done, with its dual where that is asked for.
+fn send_done<S: Sink>(sink: &mut S, page: &mut Page, runner: &Runner, step: u32, wants: bool)
+    requires done { IsTrue runner.now.work.is_done }
+    requires accel { length runner.now.work.report.accel ≡ length runner.now.state.v }
+    requires forces { HasForces runner.now.work.report }
+    ensures { Sent S.holds S.faults sink.old page.old
+        (block_text runner.now.work.report.format (length runner.now.state.q)
+        (length runner.now.state.v) step (values_of runner.now.state runner.now.work.report)
+        (asked wants (dual_values runner.now.work.dual))) sink.new page.new }
+{
+    let report = runner.work.report();
+    if wants {
+        let dual = Some(runner.work.dual());
+        send_block(sink, page, step, &runner.state, report, dual);
+    } else {
+        send_block(sink, page, step, &runner.state, report, None);
+    }
+}
+
 // The step after `done` others, and its block where it is done.
 fn send_step<S: Sink>(
     sink: &mut S,
@@ -107,8 +127,8 @@ fn send_step<S: Sink>(
     runner: &mut Runner,
     controls: &[Fix<32>],
     done: u32,
+    wants: bool,
 ) -> Result<(), OutOfRange>
-    requires smooth { IsTrue (is_smooth model.now) }
     requires made { MadeFor model.now runner.old.work }
     requires fits { Fits model.now runner.old.state }
     requires controls { AreControls model.now controls.now }
@@ -121,13 +141,13 @@ fn send_step<S: Sink>(
         ≡ step_state model.now runner.old.state controls.now) }
     ensures sent { IfOk result (λ _. Sent S.holds S.faults sink.old page.old
         (block_text model.now.format model.now.nq model.now.nv (done + 1)
-        (step_values model.now runner.old.state controls.now) None) sink.new page.new) }
+        (step_values model.now runner.old.state controls.now)
+        (asked wants (dual_at model.now runner.old.state controls.now))) sink.new page.new) }
     ensures sink { IfErr result (λ _. sink.new ≡ sink.old) }
     ensures page { IfErr result (λ _. page.new ≡ page.old) }
 {
     runner.work.step(model, &mut runner.state, controls)?;
-    let report = runner.work.report();
-    send_block(sink, page, done + 1, &runner.state, report, None);
+    send_done(sink, page, runner, done + 1, wants);
     Ok(())
 }
 
@@ -140,14 +160,14 @@ fn send_steps<S: Sink>(
     runner: &mut Runner,
     controls: &Controls,
     steps: u32,
+    wants: bool,
 ) -> Result<End, Failed>
-    requires smooth { IsTrue (is_smooth model.now) }
     requires made { MadeFor model.now runner.old.work }
     requires fits { Fits model.now runner.old.state }
     requires start { runner.old.state ≡ start model.now }
     requires serves { spec.Serves controls.now (length model.now.motors) steps }
     ensures sent { Sent S.holds S.faults sink.old page.old (done_blocks model.now
-        (spec.controls_at (length model.now.motors) (spec.tape_of controls.now)) steps)
+        (spec.controls_at (length model.now.motors) (spec.tape_of controls.now)) wants steps)
         sink.new page.new }
     ensures end { MatchResult result
         (λ end. end ≡ end_of model.now
@@ -156,7 +176,7 @@ fn send_steps<S: Sink>(
 {
     for done in 0..steps {
         let row = controls.at(model.motors.len(), steps, done);
-        match send_step(sink, page, model, runner, row, done) {
+        match send_step(sink, page, model, runner, row, done, wants) {
             Ok(()) => {}
             Err(out) => return Ok(early_end(done, &out)),
         }
@@ -168,7 +188,7 @@ fn send_steps<S: Sink>(
 }
 
 /// Runs the model for this many steps from its start and sends the trace: the header, a block for each
-/// step that is done, and the end, which is the answer. `Failed` where the writing stopped; what was
+/// step that is done, with its dual where `wants` says so, and the end, which is the answer. `Failed` where the writing stopped; what was
 /// sent is a prefix of the trace.
 pub fn send_run<S: Sink>(
     sink: &mut S,
@@ -177,14 +197,14 @@ pub fn send_run<S: Sink>(
     runner: &mut Runner,
     controls: &Controls,
     steps: u32,
+    wants: bool,
 ) -> Result<End, Failed>
-    requires smooth { IsTrue (is_smooth model.now) }
     requires made { MadeFor model.now runner.old.work }
     requires fits { Fits model.now runner.old.state }
     requires start { runner.old.state ≡ start model.now }
     requires serves { spec.Serves controls.now (length model.now.motors) steps }
     ensures sent { Sent S.holds S.faults sink.old page.old (trace_text model.now
-        (spec.controls_at (length model.now.motors) (spec.tape_of controls.now)) steps)
+        (spec.controls_at (length model.now.motors) (spec.tape_of controls.now)) wants steps)
         sink.new page.new }
     ensures end { MatchResult result
         (λ end. end ≡ end_of model.now
@@ -192,7 +212,7 @@ pub fn send_run<S: Sink>(
         (λ _. page.new.going ≡ false) }
 {
     send_header(sink, page, model, steps);
-    let end = send_steps(sink, page, model, runner, controls, steps)?;
+    let end = send_steps(sink, page, model, runner, controls, steps, wants)?;
     send_end(sink, page, &end);
     Ok(end)
 }

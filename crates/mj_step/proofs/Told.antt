@@ -1,19 +1,26 @@
--- What a report holds, as the values of a step: numbers that were copied, the residual and the largest radii, and no rows.
-use Rattle.std.proofs.Common.{◌≡◌, ◌<◌, ℕ, ℤ, pos, List, [], length, slice_index_or, refl, sym, ap, ◌∙◌, arith}
+-- What a report holds, as the values of a step: numbers that were copied, the residual and the largest radii, the rows and their forces.
+use Rattle.std.proofs.Common.{◌≡◌, ◌<◌, ◌≤◌, ℕ, zero, suc, ◌==◌, ℤ, pos, List, length, slice_index_or, inl, inr, refl, sym, ap, ◌∙◌, arith}
+use Rattle.std.proofs.lemmas.Bool.{cases_lt, cond-false}
+use Rattle.std.proofs.lemmas.Bool.Decides.{nat_tests}
 use Rattle.std.proofs.Math.Path.{fun_ext}
 use Rattle.fx_num.specs.declared.number.Number.{Number}
 use Rattle.fx_whole.specs.Entries.{below}
-use Rattle.fx_whole.proofs.EntryLaws.{below-past, below-is}
+use Rattle.fx_whole.proofs.EntryLaws.{below-within, below-past, below-is}
 use Rattle.mj_factor.specs.Residuals.{greatest_to, residual_at}
 use Rattle.mj_factor.proofs.ReadLaws.{Agree2, greatest-reads, residual-reads}
-use Rattle.mj_optimum.specs.declared.stop.Stop.TheVariants as stop
+use Rattle.mj_force.specs.Enclosures.{force_of}
+use Rattle.mj_optimum.specs.declared.stop.Stop.{Stop}
+use Rattle.mj_optimum.specs.Problem.{Problem}
+use Rattle.mj_optimum.specs.Stop.{stop_of, sweeps_of}
+use Rattle.mj_optimum.specs.Sweep.{update, pass, iterate}
+use Rattle.mj_types.specs.declared.rows.Row.{Row}
 use Rattle.mj_types.specs.declared.rows.StepReport.{StepReport}
 use Rattle.mj_types.specs.declared.state.State.{State}
 use Rattle.mj_types.specs.Control.{Control}
 use Rattle.mj_types.specs.Masses.{mass_at, no_near}
 use Rattle.mj_types.specs.Parts.{number_at, plain}
 use Rattle.mj_types.specs.Problems.{forces}
-use Rattle.mj_types.specs.StepValues.{values_of}
+use Rattle.mj_types.specs.StepValues.{values_of, active_count}
 
 -- a copy of a list
 pub copied : (xs ys : List Control) → length xs ≡ length ys → ((i : ℕ) → i < length ys → number_at xs i ≡ number_at ys i)
@@ -38,14 +45,29 @@ radius_told n xs radius e same =
     ap (λ k. greatest_to k (λ i. (slice_index_or xs i no_near).rad)) e
     ∙ greatest-reads n (λ i. (slice_index_or xs i no_near).rad) radius same
 
--- no numbers
-none : (f : ℕ → ℤ) → below (pos 0) 0 f ≡ (λ i. pos 0)
-none f = fun_ext (λ i. below-past (pos 0) 0 f i (omega arith))
+-- ---- the forces of rows past a problem's are 0
+pass-past : (p : Problem) (f : ℕ → ℤ) (n j : ℕ) → n ≤ j → pass p f n j ≡ f j
+pass-past p f zero j h = refl
+pass-past p f (suc n) j h = cond-false (j == n) (update p (pass p f n) n) (pass p f n j) (grind (arith, nat_tests)) ∙ pass-past p f n j (omega arith)
 
--- a report without rows
-pub values_told : (s : State) (r : StepReport) (accel : ℕ → ℤ) (residual mass bias : ℤ)
+iterate-past : (p : Problem) (s j : ℕ) → p.m ≤ j → iterate p s j ≡ pos 0
+unfolding iterate
+iterate-past p zero j h = refl
+iterate-past p (suc s) j h = pass-past p (iterate p s) p.m j h ∙ iterate-past p s j h
+
+pub force-whole : (p : Problem) (tolerance : ℤ) (limit : ℕ) → below (pos 0) p.m (force_of p tolerance limit) ≡ force_of p tolerance limit
+unfolding force_of
+force-whole p tolerance limit =
+    fun_ext (λ k. elim (cases_lt k p.m) [
+      | inl l ↦ below-within (pos 0) p.m (force_of p tolerance limit) k l
+      | inr l ↦ below-past (pos 0) p.m (force_of p tolerance limit) k l ∙ sym (iterate-past p (sweeps_of (stop_of p tolerance limit)) k l)
+    ])
+
+-- ---- the values of a step
+pub values_told : (s : State) (r : StepReport) (accel : ℕ → ℤ) (residual mass bias : ℤ) (rows : List Row) (end : Stop) (force : ℕ → ℤ) (cost_ bound_ : ℤ) (low high : ℕ → ℤ)
     → number_at r.accel ≡ accel → r.residual ≡ residual → r.mass_radius ≡ mass → r.bias_radius ≡ bias
-    → r.rows.list ≡ [] → r.stop ≡ stop.NoRows → r.cert.cost2 ≡ pos 0 → r.cert.bound2 ≡ pos 0
+    → below (pos 0) (active_count r.rows.list) (forces r.forces) ≡ force → below (pos 0) (active_count r.rows.list) (number_at r.cert.lo) ≡ low
+    → below (pos 0) (active_count r.rows.list) (number_at r.cert.hi) ≡ high → r.rows.list ≡ rows → r.stop ≡ end → r.cert.cost2 ≡ cost_ → r.cert.bound2 ≡ bound_
     → values_of s r ≡ record {
       q = number_at s.q;
       v = number_at s.v;
@@ -53,12 +75,13 @@ pub values_told : (s : State) (r : StepReport) (accel : ℕ → ℤ) (residual m
       residual = residual;
       mass_radius = mass;
       bias_radius = bias;
-      rows = [];
-      stop = stop.NoRows;
-      force = λ i. pos 0;
-      cost = pos 0;
-      bound = pos 0;
-      lo = λ i. pos 0;
-      hi = λ i. pos 0;
+      rows = rows;
+      stop = end;
+      force = force;
+      cost = cost_;
+      bound = bound_;
+      lo = low;
+      hi = high;
     }
-values_told s r accel residual mass bias e1 e2 e3 e4 e5 e6 e7 e8 = rw (e1, e2, e3, e4, e5, e6, e7, e8, none (forces r.forces), none (number_at r.cert.lo), none (number_at r.cert.hi)) refl
+values_told s r accel residual mass bias rows end force cost_ bound_ low high e1 e2 e3 e4 e5 e6 e7 e8 e9 e10 e11 =
+    rw (e1, e2, e3, e4, e5, e6, e7, e8, e9, e10, e11) refl

@@ -19,7 +19,7 @@ mass_error m s i j =
 abbrev pub bias_error : Model → State → ℕ → ℕ
 bias_error m s i = unsigned_abs (exact_bias m (placing m s) (number_at s.v) i -ℤ bias_of m s i *ℤ pos (2 ^ 168))
 
--- the exact error of row i of M a = tau - c, at scale 72
+-- the exact error of row i of M a = tau - c + J^T f, at scale 72
 abbrev pub motion_error : Model → State → List Control → ℕ → ℕ
 motion_error m s u = residual_at m.nv (mass_of m s) (acceleration m s u) (load m s u)
 

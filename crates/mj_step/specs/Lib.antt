@@ -1,4 +1,4 @@
+pub mod Certified
 pub mod Covered
-pub mod Smooth
 pub mod Steps
 pub mod Workspace

@@ -1,5 +1,6 @@
-// What the printed radii and the printed residual of a step are worth.
+// What the printed radii, the printed residual and the printed forces of a step are worth.
 ghost use Rattle.std.specs.Prelude.{List};
+ghost use Rattle.mj_step.specs.Certified.{IsCertified};
 ghost use Rattle.mj_step.specs.Covered.{IsCovered};
 ghost use Rattle.mj_types.specs.declared.model.Model.{Model};
 ghost use Rattle.mj_types.specs.declared.state.State.{State};
@@ -12,4 +13,11 @@ ghost use Rattle.mj_types.specs.Control.{Control};
 /// each row of the equation of motion.
 pub fn steps_are_covered()
     ensures { (m : Model) (s : State) (u : List Control) → IsCovered m s u }
+{}
+
+/// In the dual of the state that a step starts from, the forces that it tells are feasible, every feasible
+/// rational force costs at least the bound that it tells, and every one that costs no more than the forces
+/// lies in the box that it tells.
+pub fn steps_are_certified()
+    ensures { (m : Model) (s : State) (u : List Control) → IsCertified m s u }
 {}

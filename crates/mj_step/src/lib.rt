@@ -2,12 +2,11 @@
 #![tactic(auto)]
 
 pub mod laws;
+mod loading;
 mod report;
-pub mod smooth;
 #[cfg(test)]
 mod tests;
 pub mod work;
 
-pub use laws::steps_are_covered;
-pub use smooth::is_smooth;
+pub use laws::{steps_are_certified, steps_are_covered};
 pub use work::Work;

@@ -1,14 +1,13 @@
 // What a step tells, number by number.
-ghost use Rattle.std.specs.Prelude.{◌≡◌, ◌+◌, ◌*◌, ◌^◌, ◌<◌, ◌≤◌, ◌-ℤ◌, ℕ, max, pos, [], length, unsigned_abs, slice_index_or};
+ghost use Rattle.std.specs.Prelude.{◌≡◌, ◌+◌, ◌*◌, ◌^◌, ◌<◌, ◌≤◌, ◌-ℤ◌, ℕ, max, pos, length, unsigned_abs, slice_index_or};
 ghost use Rattle.mj_factor.specs.Residuals.{greatest_to};
-ghost use Rattle.mj_optimum.specs.declared.stop.Stop.TheVariants as stop;
 ghost use Rattle.mj_types.specs.Masses.{mass_radius_at, no_near};
 ghost use Rattle.mj_types.specs.Parts.{number_at};
 
 use fx_list::Array;
 use fx_near::Near;
 use fx_num::{Fix, Number};
-use mj_types::{Mass, Model, StepReport, Stop};
+use mj_types::{Mass, Model, Rows, StepReport};
 
 // A list becomes a copy of another of its length.
 pub(crate) fn copy_into(to: &mut Array<Fix<32>>, from: &[Fix<32>])
@@ -35,7 +34,12 @@ pub(crate) fn difference(tau: &Fix<32>, c: &Near<32>) -> Fix<32>
 }
 
 // The forces applied, less the bias forces.
-pub(crate) fn fill_load(model: &Model, tau: &[Fix<32>], c: &[Near<32>], load: &mut Array<Fix<32>>)
+pub(crate) fn fill_free_load(
+    model: &Model,
+    tau: &[Fix<32>],
+    c: &[Near<32>],
+    load: &mut Array<Fix<32>>,
+)
     requires tau_room { length tau.now ≡ model.now.nv }
     requires bias_room { length c.now ≡ model.now.nv }
     requires room { length load.old ≡ model.now.nv }
@@ -125,29 +129,21 @@ pub(crate) fn largest_bias_radius(c: &[Near<32>]) -> i64
     signed(largest_in_bias(c))
 }
 
-// No rows, no forces, and cost and bound 0.
-pub(crate) fn clear_rows(report: &mut StepReport)
+// Copies the rows of a list.
+pub(crate) fn copy_rows(rows: &Rows, report: &mut StepReport)
+    requires room { rows.now.list.most ≡ report.old.rows.most }
     ensures format { report.new.format ≡ report.old.format }
     ensures accel { report.new.accel ≡ report.old.accel }
     ensures residual { report.new.residual ≡ report.old.residual }
     ensures mass { report.new.mass_radius ≡ report.old.mass_radius }
     ensures bias { report.new.bias_radius ≡ report.old.bias_radius }
-    ensures rows { report.new.rows ≡ record { list = []; most = report.old.rows.most } }
-    ensures count { report.new.count ≡ 0 }
-    ensures stop { report.new.stop ≡ stop.NoRows }
+    ensures rows { report.new.rows ≡ rows.now.list }
+    ensures count { report.new.count ≡ length rows.now.list.list }
+    ensures stop { report.new.stop ≡ report.old.stop }
     ensures forces { report.new.forces ≡ report.old.forces }
-    ensures cert { report.new.cert ≡ record {
-      cost2 = pos 0;
-      bound2 = pos 0;
-      lo = report.old.cert.lo;
-      hi = report.old.cert.hi;
-      slope = report.old.cert.slope;
-      depth = report.old.cert.depth;
-    } }
+    ensures cert { report.new.cert ≡ report.old.cert }
 {
     report.rows.clear();
-    report.count = 0;
-    report.stop = Stop::NoRows;
-    report.cert.cost2 = 0;
-    report.cert.bound2 = 0;
+    report.rows.append(rows.list.as_slice());
+    report.count = rows.list.len();
 }

@@ -1,40 +1,45 @@
 // The workspace of a run, and one step in it.
-ghost use Rattle.std.specs.Prelude.{◌≡◌, ◌<◌, ◌≤◌, ◌^◌, ℕ, false, is_ok, length, unsigned_abs, IsTrue, IfOk, IfErr};
-ghost use Rattle.mj_types.specs.Parts.{number_at};
+ghost use Rattle.std.specs.Prelude.{◌≡◌, false, is_ok, length, None, IsTrue, IfOk, IfErr};
 ghost use Rattle.fx_whole.specs.First.{refusal_of};
 ghost use Rattle.mj_types.specs.States.{Fits};
-ghost use Rattle.mj_types.specs.StepValues.{values_of};
+ghost use Rattle.mj_types.specs.StepValues.{values_of, dual_values};
 ghost use Rattle.mj_types.specs.BiasRooms.{BiasRoom};
 ghost use Rattle.mj_types.specs.FactorRooms.{FactorRoom};
 ghost use Rattle.mj_types.specs.Problems.{HasRoom};
-ghost use Rattle.mj_types.specs.Rooms.{FramesRoom, CompositeRoom, MassRoom, AppliedRoom};
+ghost use Rattle.mj_types.specs.Rooms.{FramesRoom, CompositeRoom, MassRoom, AppliedRoom, ContactsRoom};
 ghost use Rattle.mj_types.specs.RowRooms.{RowsRoom, ReportRoom};
 ghost use Rattle.mj_euler.specs.Written.{StateRoom};
 ghost use Rattle.mj_passive.specs.Forces.{AreControls, applied_fault};
 ghost use Rattle.mj_step.specs.Steps as spec;
-ghost use Rattle.mj_step.specs.Smooth.{is_smooth};
-ghost use Rattle.mj_step.specs.Workspace.{MadeFor, HasMass, HasBias, HasLoad, IsRowless};
+ghost use Rattle.mj_step.specs.Workspace.{MadeFor, HasFrames, HasMass, HasBias, HasApplied, HasLoad, HasAcceleration, HasFactor, HasRows, HasForces, HasGap};
 
-use crate::report::{clear_rows, copy_into, fill_load, largest_bias_radius, largest_mass_radius};
+use crate::loading::fill_load;
+use crate::report::{
+    copy_into, copy_rows, fill_free_load, largest_bias_radius, largest_mass_radius,
+};
 use fx_list::Array;
 use fx_near::Band;
 use fx_num::{Fix, Number};
 use mj_bias::bias;
+use mj_contact::contacts;
+use mj_dual::assemble;
 use mj_euler::integrate;
 use mj_factor::{factor, residual, solve};
+use mj_force::enclose;
 use mj_inertia::{composites, mass_matrix};
 use mj_kin::frames;
 use mj_passive::applied;
 use mj_types::{
-    Applied, Bias, Composite, Dual, Factor, Frames, Mass, Model, NoMemory, OutOfRange, Rows, State,
-    StepReport,
+    Applied, Bias, Composite, Contacts, Dual, Factor, Frames, Mass, Model, NoMemory, OutOfRange,
+    Rows, State, StepReport,
 };
 use std::alloc::Global;
 
 /// All that a run's steps need beside the model and the state. It is made once; a step takes no memory.
-/// The fields are public so that contracts can name them. `load` is the force that is applied less the
-/// bias force, `smooth` the acceleration without contact forces; `is_done` says whether the last step
-/// was done, so that the report and the dual are its.
+/// The fields are public so that contracts can name them. `free_load` is the force that is applied less
+/// the bias force, and `smooth` the acceleration that it gives; `load` and `accel` are those with the
+/// forces of the constraints. `is_done` says whether the last step was done, so that the report and the
+/// dual are its.
 #[derive(Drop)]
 pub struct Work {
     pub frames: Frames,
@@ -43,8 +48,11 @@ pub struct Work {
     pub bias: Bias<Band>,
     pub applied: Applied,
     pub factor: Factor,
-    pub load: Array<Fix<32>>,
+    pub contacts: Contacts,
+    pub free_load: Array<Fix<32>>,
     pub smooth: Vec<Fix<32>>,
+    pub load: Array<Fix<32>>,
+    pub accel: Vec<Fix<32>>,
     pub rows: Rows,
     pub dual: Dual,
     pub report: StepReport,
@@ -84,12 +92,13 @@ impl TreeRooms {
     }
 }
 
-// the forces and the factor,
+// the forces, the factor and the contacts,
 #[derive(Drop)]
 struct ForceRooms {
     bias: Bias<Band>,
     applied: Applied,
     factor: Factor,
+    contacts: Contacts,
 }
 
 impl ForceRooms {
@@ -97,11 +106,13 @@ impl ForceRooms {
         ensures bias { IfOk result (λ r. BiasRoom model.now r.bias) }
         ensures applied { IfOk result (λ r. AppliedRoom model.now r.applied) }
         ensures factor { IfOk result (λ r. FactorRoom model.now r.factor) }
+        ensures contacts { IfOk result (λ r. ContactsRoom model.now r.contacts) }
     {
         Ok(ForceRooms {
             bias: Bias::new(alloc, model)?,
             applied: Applied::new(alloc, model)?,
             factor: Factor::new(alloc, model)?,
+            contacts: Contacts::new(alloc, model)?,
         })
     }
 }
@@ -128,23 +139,29 @@ impl RowRooms {
     }
 }
 
-// and the acceleration and the next state.
+// and the loads, the accelerations and the next state.
 #[derive(Drop)]
 struct NumberRooms {
-    load: Array<Fix<32>>,
+    free_load: Array<Fix<32>>,
     smooth: Vec<Fix<32>>,
+    load: Array<Fix<32>>,
+    accel: Vec<Fix<32>>,
     next: State,
 }
 
 impl NumberRooms {
     fn new(alloc: Global, model: &Model) -> Result<NumberRooms, NoMemory>
-        ensures load { IfOk result (λ r. length r.load ≡ model.now.nv) }
+        ensures free_load { IfOk result (λ r. length r.free_load ≡ model.now.nv) }
         ensures smooth { IfOk result (λ r. length r.smooth.items ≡ model.now.nv) }
+        ensures load { IfOk result (λ r. length r.load ≡ model.now.nv) }
+        ensures accel { IfOk result (λ r. length r.accel.items ≡ model.now.nv) }
         ensures next { IfOk result (λ r. StateRoom model.now r.next) }
     {
         Ok(NumberRooms {
-            load: zeros(alloc, model.nv)?,
+            free_load: zeros(alloc, model.nv)?,
             smooth: zeros(alloc, model.nv)?.into_vec(),
+            load: zeros(alloc, model.nv)?,
+            accel: zeros(alloc, model.nv)?.into_vec(),
             next: State::new(alloc, model)?,
         })
     }
@@ -162,8 +179,10 @@ impl LastRooms {
         ensures rows { IfOk result (λ r. RowsRoom model.now r.rows.rows) }
         ensures dual { IfOk result (λ r. HasRoom model.now.njmax model.now.nv r.rows.dual) }
         ensures report { IfOk result (λ r. ReportRoom model.now r.rows.report) }
-        ensures load { IfOk result (λ r. length r.numbers.load ≡ model.now.nv) }
+        ensures free_load { IfOk result (λ r. length r.numbers.free_load ≡ model.now.nv) }
         ensures smooth { IfOk result (λ r. length r.numbers.smooth.items ≡ model.now.nv) }
+        ensures load { IfOk result (λ r. length r.numbers.load ≡ model.now.nv) }
+        ensures accel { IfOk result (λ r. length r.numbers.accel.items ≡ model.now.nv) }
         ensures next { IfOk result (λ r. StateRoom model.now r.numbers.next) }
     {
         let rows = RowRooms::new(alloc, model)?;
@@ -188,8 +207,11 @@ fn joined(model: &Model, tree: TreeRooms, forces: ForceRooms, last: LastRooms) -
     requires rows { RowsRoom model.now last.rows.rows }
     requires dual { HasRoom model.now.njmax model.now.nv last.rows.dual }
     requires report { ReportRoom model.now last.rows.report }
-    requires load { length last.numbers.load ≡ model.now.nv }
+    requires contacts { ContactsRoom model.now forces.contacts }
+    requires free_load { length last.numbers.free_load ≡ model.now.nv }
     requires smooth { length last.numbers.smooth.items ≡ model.now.nv }
+    requires load { length last.numbers.load ≡ model.now.nv }
+    requires accel { length last.numbers.accel.items ≡ model.now.nv }
     requires next { StateRoom model.now last.numbers.next }
     ensures made { MadeFor model.now result }
     ensures flag { result.is_done ≡ false }
@@ -203,10 +225,17 @@ fn joined(model: &Model, tree: TreeRooms, forces: ForceRooms, last: LastRooms) -
         bias,
         applied,
         factor,
+        contacts,
     } = forces;
     let LastRooms { rows, numbers } = last;
     let RowRooms { rows, dual, report } = rows;
-    let NumberRooms { load, smooth, next } = numbers;
+    let NumberRooms {
+        free_load,
+        smooth,
+        load,
+        accel,
+        next,
+    } = numbers;
     Work {
         frames,
         composite,
@@ -214,8 +243,11 @@ fn joined(model: &Model, tree: TreeRooms, forces: ForceRooms, last: LastRooms) -
         bias,
         applied,
         factor,
-        load,
+        contacts,
+        free_load,
         smooth,
+        load,
+        accel,
         rows,
         dual,
         report,
@@ -248,16 +280,17 @@ impl Work {
         }
     }
 
-    /// One step by semi-implicit Euler (MuJoCo documentation, Computation), for a model without
-    /// constraint rows: the state moves on by the model's time step under the controls. Where a number
-    /// leaves its range, the first such number is named and the state stays. Takes no memory.
+    /// One step by semi-implicit Euler (MuJoCo documentation, Computation): the accelerations without
+    /// constraints, the constraints' rows and their dual, its forces by projected Gauss-Seidel with
+    /// their certificate, and the acceleration that all forces give; the state moves on by the model's
+    /// time step under the controls. Where a number leaves its range, the first such number is named and
+    /// the state stays. Takes no memory.
     pub fn step(
         &mut self,
         model: &Model,
         state: &mut State,
         controls: &[Fix<32>],
     ) -> Result<(), OutOfRange>
-        requires smooth { IsTrue (is_smooth model.now) }
         requires made { MadeFor model.now self.old }
         requires fits { Fits model.now state.old }
         requires controls { AreControls model.now controls.now }
@@ -269,14 +302,18 @@ impl Work {
             ≡ spec.step_state model.now state.old controls.now) }
         ensures report { IfOk result (λ _. values_of state.new self.new.report
             ≡ spec.step_values model.now state.old controls.now) }
+        ensures dual { IfOk result (λ _. dual_values self.new.dual
+            ≡ spec.dual_at model.now state.old controls.now) }
         ensures count { IfOk result (λ _. self.new.report.count
             ≡ length self.new.report.rows.list) }
         ensures mass { IfOk result (λ _. HasMass model.now state.old self.new.mass) }
-        ensures load { IfOk result
-            (λ _. HasLoad model.now state.old controls.now self.new.load) }
-        ensures smooth { IfOk result (λ _. number_at self.new.smooth.items
-            ≡ spec.acceleration model.now state.old controls.now) }
-        ensures rowless { IfOk result (λ _. IsRowless self.new.rows self.new.dual) }
+        ensures load { IfOk result (λ _. HasLoad model.now
+            (spec.free_load model.now state.old controls.now) self.new.free_load) }
+        ensures smooth { IfOk result (λ _. HasAcceleration model.now
+            (spec.smooth model.now state.old controls.now) self.new.smooth.items) }
+        ensures rows { IfOk result (λ _. HasRows model.now state.old controls.now
+            self.new.rows self.new.dual) }
+        ensures gap { IfOk result (λ _. HasGap self.new.report.cert) }
         ensures kept { IfErr result (λ _. state.new ≡ state.old) }
         ensures flag { self.new.is_done ≡ is_ok result }
     {
@@ -330,9 +367,9 @@ impl Work {
     /// The force applied less the bias force in the last step, which was done.
     pub fn free_load(&self) -> &[Fix<32>]
         requires { IsTrue self.now.is_done }
-        ensures { result.now ≡ self.now.load }
+        ensures { result.now ≡ self.now.free_load }
     {
-        self.load.as_slice()
+        self.free_load.as_slice()
     }
 
     // The next state and the report, from a state.
@@ -356,17 +393,23 @@ impl Work {
         ensures count { IfOk result (λ _. self.new.report.count
             ≡ length self.new.report.rows.list) }
         ensures mass { IfOk result (λ _. HasMass model.now state.now self.new.mass) }
-        ensures load { IfOk result
-            (λ _. HasLoad model.now state.now controls.now self.new.load) }
-        ensures smooth { IfOk result (λ _. number_at self.new.smooth.items
-            ≡ spec.acceleration model.now state.now controls.now) }
-        ensures rowless { IfOk result (λ _. IsRowless self.new.rows self.new.dual) }
+        ensures load { IfOk result (λ _. HasLoad model.now
+            (spec.free_load model.now state.now controls.now) self.new.free_load) }
+        ensures smooth { IfOk result (λ _. HasAcceleration model.now
+            (spec.smooth model.now state.now controls.now) self.new.smooth.items) }
+        ensures rows { IfOk result (λ _. HasRows model.now state.now controls.now
+            self.new.rows self.new.dual) }
+        ensures gap { IfOk result (λ _. HasGap self.new.report.cert) }
         ensures flag { self.new.is_done ≡ self.old.is_done }
     {
         self.weigh(model, state)?;
         self.push(model, state, controls)?;
+        self.accelerate_freely(model, state, controls)?;
+        self.constrain(model, state, controls)?;
+        self.enclose(model, state, controls)?;
+        self.push_constraints(model, state, controls)?;
         self.accelerate(model, state, controls)?;
-        integrate(model, state, self.smooth.as_slice(), &mut self.next)?;
+        integrate(model, state, self.accel.as_slice(), &mut self.next)?;
         self.fill_report(model, state, controls);
         Ok(())
     }
@@ -377,6 +420,7 @@ impl Work {
         requires fits { Fits model.now state.now }
         ensures made { MadeFor model.now self.new }
         ensures first { refusal_of result ≡ spec.weigh_fault model.now state.now }
+        ensures frames { IfOk result (λ _. HasFrames model.now state.now self.new.frames) }
         ensures mass { IfOk result (λ _. HasMass model.now state.now self.new.mass) }
         ensures bias { IfOk result (λ _. HasBias model.now state.now self.new.bias.c) }
         ensures flag { self.new.is_done ≡ self.old.is_done }
@@ -401,24 +445,26 @@ impl Work {
         requires bias { HasBias model.now state.now self.old.bias.c }
         ensures made { MadeFor model.now self.new }
         ensures first { refusal_of result ≡ applied_fault model.now state.now controls.now }
-        ensures load { IfOk result
-            (λ _. HasLoad model.now state.now controls.now self.new.load) }
+        ensures applied { IfOk result (λ _. HasApplied model.now state.now self.new.applied) }
+        ensures load { IfOk result (λ _. HasLoad model.now
+            (spec.free_load model.now state.now controls.now) self.new.free_load) }
+        ensures frames { self.new.frames ≡ self.old.frames }
         ensures mass { self.new.mass ≡ self.old.mass }
         ensures bias { self.new.bias ≡ self.old.bias }
         ensures flag { self.new.is_done ≡ self.old.is_done }
     {
         applied(model, state, controls, &mut self.applied)?;
-        fill_load(
+        fill_free_load(
             model,
             self.applied.tau.as_slice(),
             self.bias.c.as_slice(),
-            &mut self.load,
+            &mut self.free_load,
         );
         Ok(())
     }
 
-    // The factor of the mass matrix, and the acceleration.
-    fn accelerate(
+    // The factor of the mass matrix, and the acceleration without constraints.
+    fn accelerate_freely(
         &mut self,
         model: &Model,
         state: &State,
@@ -426,25 +472,175 @@ impl Work {
     ) -> Result<(), OutOfRange>
         requires made { MadeFor model.now self.old }
         requires mass { HasMass model.now state.now self.old.mass }
-        requires load { HasLoad model.now state.now controls.now self.old.load }
+        requires load { HasLoad model.now
+            (spec.free_load model.now state.now controls.now) self.old.free_load }
         ensures made { MadeFor model.now self.new }
         ensures first { refusal_of result
-            ≡ spec.accelerate_fault model.now state.now controls.now }
-        ensures value { IfOk result (λ _. number_at self.new.smooth.items
-            ≡ spec.acceleration model.now state.now controls.now) }
-        ensures small { IfOk result (λ _. (i : ℕ) → i < model.now.nv
-            → unsigned_abs (number_at self.new.smooth.items i) ≤ 2 ^ 56) }
+            ≡ spec.smooth_fault model.now state.now controls.now }
+        ensures factor { IfOk result (λ _. HasFactor model.now state.now self.new.factor) }
+        ensures smooth { IfOk result (λ _. HasAcceleration model.now
+            (spec.smooth model.now state.now controls.now) self.new.smooth.items) }
+        ensures frames { self.new.frames ≡ self.old.frames }
         ensures mass { self.new.mass ≡ self.old.mass }
         ensures bias { self.new.bias ≡ self.old.bias }
-        ensures load { self.new.load ≡ self.old.load }
+        ensures applied { self.new.applied ≡ self.old.applied }
+        ensures load { self.new.free_load ≡ self.old.free_load }
         ensures flag { self.new.is_done ≡ self.old.is_done }
     {
         factor(model, &self.mass, &mut self.factor)?;
         solve(
             model,
             &self.factor,
-            self.load.as_slice(),
+            self.free_load.as_slice(),
             self.smooth.as_mut_slice(),
+        )?;
+        Ok(())
+    }
+
+    // The rows of all constraints, and the dual of those that aren't idle.
+    fn constrain(
+        &mut self,
+        model: &Model,
+        state: &State,
+        controls: &[Fix<32>],
+    ) -> Result<(), OutOfRange>
+        requires made { MadeFor model.now self.old }
+        requires fits { Fits model.now state.now }
+        requires frames { HasFrames model.now state.now self.old.frames }
+        requires applied { HasApplied model.now state.now self.old.applied }
+        requires factor { HasFactor model.now state.now self.old.factor }
+        requires smooth { HasAcceleration model.now
+            (spec.smooth model.now state.now controls.now) self.old.smooth.items }
+        ensures made { MadeFor model.now self.new }
+        ensures first { refusal_of result
+            ≡ spec.rows_fault model.now state.now controls.now }
+        ensures rows { IfOk result (λ _. HasRows model.now state.now controls.now
+            self.new.rows self.new.dual) }
+        ensures mass { self.new.mass ≡ self.old.mass }
+        ensures bias { self.new.bias ≡ self.old.bias }
+        ensures factor { self.new.factor ≡ self.old.factor }
+        ensures load { self.new.free_load ≡ self.old.free_load }
+        ensures smooth { self.new.smooth ≡ self.old.smooth }
+        ensures flag { self.new.is_done ≡ self.old.is_done }
+    {
+        contacts(model, &self.frames, &mut self.contacts)?;
+        assemble(
+            model,
+            state,
+            &self.frames,
+            &self.applied,
+            &self.contacts,
+            &self.factor,
+            self.smooth.as_slice(),
+            &mut self.rows,
+            &mut self.dual,
+        )?;
+        Ok(())
+    }
+
+    // The forces of the dual, and their certificate.
+    fn enclose(
+        &mut self,
+        model: &Model,
+        state: &State,
+        controls: &[Fix<32>],
+    ) -> Result<(), OutOfRange>
+        requires made { MadeFor model.now self.old }
+        requires rows { HasRows model.now state.now controls.now self.old.rows self.old.dual }
+        ensures made { MadeFor model.now self.new }
+        ensures first { refusal_of result
+            ≡ spec.force_fault model.now state.now controls.now }
+        ensures forces { IfOk result
+            (λ _. HasForces model.now state.now controls.now self.new.report) }
+        ensures mass { self.new.mass ≡ self.old.mass }
+        ensures bias { self.new.bias ≡ self.old.bias }
+        ensures factor { self.new.factor ≡ self.old.factor }
+        ensures load { self.new.free_load ≡ self.old.free_load }
+        ensures smooth { self.new.smooth ≡ self.old.smooth }
+        ensures rows { self.new.rows ≡ self.old.rows }
+        ensures dual { self.new.dual ≡ self.old.dual }
+        ensures flag { self.new.is_done ≡ self.old.is_done }
+    {
+        self.report.stop = enclose(
+            &self.dual,
+            model.iterations,
+            model.tolerance,
+            &mut self.report.forces,
+            &mut self.report.cert,
+        )?;
+        Ok(())
+    }
+
+    // The load with the forces of the constraints.
+    fn push_constraints(
+        &mut self,
+        model: &Model,
+        state: &State,
+        controls: &[Fix<32>],
+    ) -> Result<(), OutOfRange>
+        requires made { MadeFor model.now self.old }
+        requires load { HasLoad model.now
+            (spec.free_load model.now state.now controls.now) self.old.free_load }
+        requires rows { HasRows model.now state.now controls.now self.old.rows self.old.dual }
+        requires in_range { spec.rows_fault model.now state.now controls.now ≡ None }
+        requires forces { HasForces model.now state.now controls.now self.old.report }
+        ensures made { MadeFor model.now self.new }
+        ensures first { refusal_of result
+            ≡ spec.load_fault model.now state.now controls.now }
+        ensures load { IfOk result (λ _. HasLoad model.now
+            (spec.load model.now state.now controls.now) self.new.load) }
+        ensures mass { self.new.mass ≡ self.old.mass }
+        ensures bias { self.new.bias ≡ self.old.bias }
+        ensures factor { self.new.factor ≡ self.old.factor }
+        ensures free_load { self.new.free_load ≡ self.old.free_load }
+        ensures smooth { self.new.smooth ≡ self.old.smooth }
+        ensures rows { self.new.rows ≡ self.old.rows }
+        ensures dual { self.new.dual ≡ self.old.dual }
+        ensures report { self.new.report ≡ self.old.report }
+        ensures flag { self.new.is_done ≡ self.old.is_done }
+    {
+        fill_load(
+            model.nv,
+            self.free_load.as_slice(),
+            &self.rows,
+            &self.dual,
+            &self.report.forces,
+            &mut self.load,
+        )?;
+        Ok(())
+    }
+
+    // The acceleration that the load gives.
+    fn accelerate(
+        &mut self,
+        model: &Model,
+        state: &State,
+        controls: &[Fix<32>],
+    ) -> Result<(), OutOfRange>
+        requires made { MadeFor model.now self.old }
+        requires factor { HasFactor model.now state.now self.old.factor }
+        requires load { HasLoad model.now
+            (spec.load model.now state.now controls.now) self.old.load }
+        ensures made { MadeFor model.now self.new }
+        ensures first { refusal_of result ≡ spec.solved_fault model.now state.now
+            (spec.load model.now state.now controls.now) }
+        ensures accel { IfOk result (λ _. HasAcceleration model.now
+            (spec.acceleration model.now state.now controls.now) self.new.accel.items) }
+        ensures mass { self.new.mass ≡ self.old.mass }
+        ensures bias { self.new.bias ≡ self.old.bias }
+        ensures free_load { self.new.free_load ≡ self.old.free_load }
+        ensures smooth { self.new.smooth ≡ self.old.smooth }
+        ensures load { self.new.load ≡ self.old.load }
+        ensures rows { self.new.rows ≡ self.old.rows }
+        ensures dual { self.new.dual ≡ self.old.dual }
+        ensures report { self.new.report ≡ self.old.report }
+        ensures flag { self.new.is_done ≡ self.old.is_done }
+    {
+        solve(
+            model,
+            &self.factor,
+            self.load.as_slice(),
+            self.accel.as_mut_slice(),
         )?;
         Ok(())
     }
@@ -454,11 +650,12 @@ impl Work {
         requires made { MadeFor model.now self.old }
         requires mass { HasMass model.now state.now self.old.mass }
         requires bias { HasBias model.now state.now self.old.bias.c }
-        requires load { HasLoad model.now state.now controls.now self.old.load }
-        requires accel { number_at self.old.smooth.items
-            ≡ spec.acceleration model.now state.now controls.now }
-        requires small { (i : ℕ) → i < model.now.nv
-            → unsigned_abs (number_at self.old.smooth.items i) ≤ 2 ^ 56 }
+        requires load { HasLoad model.now
+            (spec.load model.now state.now controls.now) self.old.load }
+        requires accel { HasAcceleration model.now
+            (spec.acceleration model.now state.now controls.now) self.old.accel.items }
+        requires rows { HasRows model.now state.now controls.now self.old.rows self.old.dual }
+        requires forces { HasForces model.now state.now controls.now self.old.report }
         requires next { self.old.next ≡ spec.step_state model.now state.now controls.now }
         ensures made { MadeFor model.now self.new }
         ensures next { self.new.next ≡ self.old.next }
@@ -466,18 +663,16 @@ impl Work {
             ≡ spec.step_values model.now state.now controls.now }
         ensures count { self.new.report.count ≡ length self.new.report.rows.list }
         ensures mass { self.new.mass ≡ self.old.mass }
-        ensures load { self.new.load ≡ self.old.load }
+        ensures load { self.new.free_load ≡ self.old.free_load }
         ensures smooth { self.new.smooth ≡ self.old.smooth }
-        ensures rowless { IsRowless self.new.rows self.new.dual }
+        ensures rows { self.new.rows ≡ self.old.rows }
+        ensures dual { self.new.dual ≡ self.old.dual }
         ensures flag { self.new.is_done ≡ self.old.is_done }
     {
-        copy_into(&mut self.report.accel, self.smooth.as_slice());
-        self.report.residual = residual(&self.mass, self.smooth.as_slice(), self.load.as_slice());
+        copy_into(&mut self.report.accel, self.accel.as_slice());
+        self.report.residual = residual(&self.mass, self.accel.as_slice(), self.load.as_slice());
         self.report.mass_radius = largest_mass_radius(model, &self.mass);
         self.report.bias_radius = largest_bias_radius(self.bias.c.as_slice());
-        clear_rows(&mut self.report);
-        self.rows.list.clear();
-        self.rows.jac.clear();
-        self.dual.clear();
+        copy_rows(&self.rows, &mut self.report);
     }
 }

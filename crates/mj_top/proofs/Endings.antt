@@ -14,12 +14,11 @@ use Rattle.mj_gen.specs.Tape.{tape_text}
 use Rattle.mj_tape.specs.Judging.{TapeValues, tape_verdict}
 use Rattle.mj_run.specs.Controls.{controls_at}
 use Rattle.mj_run.specs.Run.{end_of}
-use Rattle.mj_step.specs.Smooth.{is_smooth}
 use Rattle.mj_valid.specs.Judging.{told, judged_bytes}
 use Rattle.mj_words.specs.declared.table.Command.{Command}
 use Rattle.mj_words.specs.declared.table.Command.TheVariants as command
-use Rattle.mj_words.specs.Words.{bad_place, command_of, model_of, step_count, tape_of}
-use Rattle.mj_top.specs.Outcome.{Outcome, IsOutcome, IsFileOutcome, IsCommandOutcome, IsWordsOutcome, words_refused, status_of, tape_room, with_summed_tape, bench_of, IsBenchOutcome, with_tape, with_tape_file, with_tape_name, with_model, model_refused, not_built, model_cap}
+use Rattle.mj_words.specs.Words.{bad_place, command_of, model_of, step_count, tape_of, wants_dual}
+use Rattle.mj_top.specs.Outcome.{Outcome, IsOutcome, IsFileOutcome, IsCommandOutcome, IsWordsOutcome, words_refused, status_of, tape_room, with_summed_tape, bench_of, IsBenchOutcome, with_tape, with_tape_file, with_tape_name, with_model, model_cap}
 use Rattle.mj_top.specs.Ends.{Answers, WritesNothing, HasCause, Completes, RunReadRose, CommandReadRose, ReadRose, TapeRose, HasTapeCause, Ends, EndsOrMemory, EndsMeant, unless_failed}
 
 -- a status that tells of an outcome, and of no fault
@@ -42,9 +41,9 @@ pub later-status_of : (end : End) → IsLater (status_of end)
 later-status_of finish.Done = tt
 later-status_of (finish.OutOfRange step kind index) = tt
 
-pub later-with_tape : (n : ℕ) (m : Model) (answer : Result TapeValues TapeFault) → IsLater (with_tape n m answer).status
-later-with_tape n m (Ok tape) = later-status_of (end_of m (controls_at (length m.motors) (Some tape)) n)
-later-with_tape n m (Err fault) = tt
+pub later-with_tape : (wants : Bool) (n : ℕ) (m : Model) (answer : Result TapeValues TapeFault) → IsLater (with_tape wants n m answer).status
+later-with_tape wants n m (Ok tape) = later-status_of (end_of m (controls_at (length m.motors) (Some tape)) n)
+later-with_tape wants n m (Err fault) = tt
 
 -- an answer with its cause is the outcome's where no count rose
 pub completes : (words : List (List ℕ)) (tells : Bool) (held : List ℕ → Option (List ℕ)) (answer : Status) (old new : Option (List ℕ)) (reads reads' : List ℕ → ℕ) (writes writes' : ℕ) → Answers (IsOutcome words held) answer old new → HasCause words tells held answer reads reads' writes writes' → Completes words tells held answer reads reads' writes writes'
@@ -179,14 +178,9 @@ later-summed : (n : ℕ) (m : Model) (answer : Result TapeValues TapeFault) → 
 later-summed n m (Ok tape) = later-status_of (end_of m (controls_at (length m.motors) (Some tape)) n)
 later-summed n m (Err fault) = tt
 
-later-either : (b : Bool) (x y : Outcome) → IsLater x.status → IsLater y.status → IsLater (cond b x y).status
-later-either true x y p q = p
-later-either false x y p q = q
-
 later-bench : (seed links n : ℕ) (judged : Result Model ModelFault) → IsLater (bench_of seed links n judged).status
 later-bench seed links n (Ok m) =
-    let verdict = tape_verdict (length m.motors) n tape_room (tape_text seed n links) in
-    later-either (is_smooth m) (with_summed_tape n m verdict) (model_refused not_built) (later-summed n m verdict) tt
+    later-summed n m (tape_verdict (length m.motors) n tape_room (tape_text seed n links))
 later-bench seed links n (Err fault) = tt
 
 pub bench-later : (seed links n : ℕ) (o : Outcome) → IsBenchOutcome seed links n o → IsLater o.status
@@ -216,13 +210,15 @@ tape_cause-earlier tape status.WriteFault reads between reads' writes writes' lo
 tape_cause-earlier tape status.Memory reads between reads' writes writes' lower cause = tt
 
 -- ---- outcomes are the same for files that are held alike
-with_tape_name-same : (held held' : List ℕ → Option (List ℕ)) (n : ℕ) (m : Model) (tape : Option (List ℕ)) → ((name : List ℕ) → held' name ≡ held name) → with_tape_name held' n m tape ≡ with_tape_name held n m tape
-with_tape_name-same held held' n m None same = refl
-with_tape_name-same held held' n m (Some name) same = ap (option_map (with_tape_file n m)) (same name)
+with_tape_name-same : (held held' : List ℕ → Option (List ℕ)) (wants : Bool) (n : ℕ) (m : Model) (tape : Option (List ℕ)) → ((name : List ℕ) → held' name ≡ held name)
+    → with_tape_name held' wants n m tape ≡ with_tape_name held wants n m tape
+with_tape_name-same held held' wants n m None same = refl
+with_tape_name-same held held' wants n m (Some name) same = ap (option_map (with_tape_file wants n m)) (same name)
 
-with_model-same : (held held' : List ℕ → Option (List ℕ)) (n : ℕ) (tape : Option (List ℕ)) (judged : Result Model ModelFault) → ((name : List ℕ) → held' name ≡ held name) → with_model held' n tape judged ≡ with_model held n tape judged
-with_model-same held held' n tape (Ok m) same = ap (λ o. cond (is_smooth m) o (Some (model_refused not_built))) (with_tape_name-same held held' n m tape same)
-with_model-same held held' n tape (Err fault) same = refl
+with_model-same : (held held' : List ℕ → Option (List ℕ)) (wants : Bool) (n : ℕ) (tape : Option (List ℕ)) (judged : Result Model ModelFault) → ((name : List ℕ) → held' name ≡ held name)
+    → with_model held' wants n tape judged ≡ with_model held wants n tape judged
+with_model-same held held' wants n tape (Ok m) same = with_tape_name-same held held' wants n m tape same
+with_model-same held held' wants n tape (Err fault) same = refl
 
 -- accepted words have the outcome of their command
 pub outcome-is : (words : List (List ℕ)) (held : List ℕ → Option (List ℕ)) (kind : Command) (o : Outcome) → bad_place words ≡ None → command_of words ≡ kind → IsCommandOutcome held kind words o → IsOutcome words held o
@@ -232,11 +228,11 @@ outcome-is words held kind o good is meant =
     subst P (sym good) (subst Q (sym is) meant)
 
 -- the outcome of the model's file is that of a run
-pub file_outcome-is : (words : List (List ℕ)) (held held' : List ℕ → Option (List ℕ)) (file bytes : List ℕ) → bad_place words ≡ None → command_of words ≡ command.Run → ((name : List ℕ) → held' name ≡ held name) → held (model_of words) ≡ Some file → bytes ≡ take model_cap file → (o : Outcome) → IsFileOutcome held' (step_count words) (tape_of words) bytes o → IsOutcome words held o
+pub file_outcome-is : (words : List (List ℕ)) (held held' : List ℕ → Option (List ℕ)) (file bytes : List ℕ) → bad_place words ≡ None → command_of words ≡ command.Run → ((name : List ℕ) → held' name ≡ held name) → held (model_of words) ≡ Some file → bytes ≡ take model_cap file → (o : Outcome) → IsFileOutcome held' (wants_dual words) (step_count words) (tape_of words) bytes o → IsOutcome words held o
 file_outcome-is words held held' file bytes good run same kept e o meant =
     let Q = λ (b : List ℕ). told meant.0 ≡ judged_bytes b in
     outcome-is words held command.Run o good run
-    (file, kept, (meant.0, subst Q e meant.1, sym (with_model-same held held' (step_count words) (tape_of words) meant.0 same) ∙ meant.2))
+    (file, kept, (meant.0, subst Q e meant.1, sym (with_model-same held held' (wants_dual words) (step_count words) (tape_of words) meant.0 same) ∙ meant.2))
 
 -- a read that failed in a run failed in the command
 pub run_read-rose : (words : List (List ℕ)) (tells : Bool) (held : List ℕ → Option (List ℕ)) (reads reads' : List ℕ → ℕ) → command_of words ≡ command.Run → RunReadRose words tells held reads reads' → ReadRose words tells held reads reads'

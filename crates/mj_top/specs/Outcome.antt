@@ -1,23 +1,21 @@
 -- What a command answers and writes, for its words and for the bytes held under each name.
-use Rattle.std.specs.Prelude.{◌≡◌, ℕ, List, [], length, take, cond, Option, Some, None, option_map, Result, Ok, Err}
+use Rattle.std.specs.Prelude.{◌≡◌, ℕ, Bool, List, length, take, Option, Some, None, option_map, Result, Ok, Err}
 use Rattle.mj_types.specs.declared.model.Model.{Model}
 use Rattle.mj_types.specs.declared.range.End.{End}
 use Rattle.mj_types.specs.declared.range.End.TheVariants as finish
-use Rattle.mj_types.specs.declared.status.ModelCode.TheVariants as code
 use Rattle.mj_types.specs.declared.status.ModelFault.{ModelFault}
 use Rattle.mj_types.specs.declared.status.Status.{Status}
 use Rattle.mj_types.specs.declared.status.Status.TheVariants as status
 use Rattle.mj_types.specs.declared.tape.TapeFault.{TapeFault}
 use Rattle.mj_gen.specs.Chain.{chain_text}
 use Rattle.mj_gen.specs.Tape.{tape_text}
-use Rattle.mj_step.specs.Smooth.{is_smooth}
 use Rattle.mj_tape.specs.Judging.{TapeValues, tape_verdict}
 use Rattle.mj_trace.specs.Refusal.{words_refusal, model_refusal, tape_refusal}
 use Rattle.mj_valid.specs.Judging.{told, judged_bytes}
 use Rattle.mj_run.specs.Controls.{controls_at}
 use Rattle.mj_words.specs.declared.table.Command.{Command}
 use Rattle.mj_words.specs.declared.table.Command.TheVariants as command
-use Rattle.mj_words.specs.Words.{bad_place, command_of, model_of, step_count, tape_of, seed_of, link_count}
+use Rattle.mj_words.specs.Words.{bad_place, command_of, model_of, step_count, wants_dual, tape_of, seed_of, link_count}
 use Rattle.mj_run.specs.Run.{end_of, trace_text}
 use Rattle.mj_run.specs.Summing.{run_summary_text}
 
@@ -51,17 +49,17 @@ abbrev pub status_of : End → Status
 status_of finish.Done = status.Done
 status_of (finish.OutOfRange step kind index) = status.OutOfRange step kind index
 
--- the model runs for n steps with this tape, or without one
-abbrev pub ran : ℕ → Model → Option TapeValues → Outcome
-ran n m tape = record {
+-- the model runs for n steps with this tape, or without one, and its duals are told where they are asked for
+abbrev pub ran : Bool → ℕ → Model → Option TapeValues → Outcome
+ran wants n m tape = record {
   status = status_of (end_of m (controls_at (length m.motors) tape) n);
-  text = trace_text m (controls_at (length m.motors) tape) n;
+  text = trace_text m (controls_at (length m.motors) tape) wants n;
 }
 
 -- the tape is refused, or the model runs with it
-abbrev pub with_tape : ℕ → Model → Result TapeValues TapeFault → Outcome
-with_tape n m (Ok tape) = ran n m (Some tape)
-with_tape n m (Err fault) = tape_refused fault
+abbrev pub with_tape : Bool → ℕ → Model → Result TapeValues TapeFault → Outcome
+with_tape wants n m (Ok tape) = ran wants n m (Some tape)
+with_tape wants n m (Err fault) = tape_refused fault
 
 -- how many values the tapes of a command may hold together
 abbrev pub tape_room : ℕ
@@ -75,12 +73,8 @@ abbrev pub tape_cap : ℕ
 tape_cap = 67108865
 
 -- what is read of a tape's file
-abbrev pub with_tape_file : ℕ → Model → List ℕ → Outcome
-with_tape_file n m held = with_tape n m (tape_verdict (length m.motors) n tape_room (take tape_cap held))
-
--- a model that may have constraint rows isn't run yet
-abbrev pub not_built : ModelFault
-not_built = record { code = code.NotBuilt; path = [] }
+abbrev pub with_tape_file : Bool → ℕ → Model → List ℕ → Outcome
+with_tape_file wants n m held = with_tape wants n m (tape_verdict (length m.motors) n tape_room (take tape_cap held))
 
 -- the steps of a run with this tape are summed
 abbrev pub summed : ℕ → Model → Option TapeValues → Outcome
@@ -97,7 +91,7 @@ with_summed_tape n m (Err fault) = tape_refused fault
 -- an accepted model of so many links runs n steps with the generated tape
 abbrev pub benched : ℕ → ℕ → ℕ → Model → Outcome
 benched seed links n m =
-    cond (is_smooth m) (with_summed_tape n m (tape_verdict (length m.motors) n tape_room (tape_text seed n links))) (model_refused not_built)
+    with_summed_tape n m (tape_verdict (length m.motors) n tape_room (tape_text seed n links))
 
 -- the generated model is refused, or accepted
 abbrev pub bench_of : ℕ → ℕ → ℕ → Result Model ModelFault → Outcome
@@ -111,28 +105,25 @@ IsBenchOutcome seed links n outcome =
 
 module _ (held : List ℕ → Option (List ℕ)) where
   -- no tape is named, or its file is read; none where nothing is held under that name
-  abbrev pub with_tape_name : ℕ → Model → Option (List ℕ) → Option Outcome
-  with_tape_name n m None = Some (ran n m None)
-  with_tape_name n m (Some name) = option_map (with_tape_file n m) (held name)
+  abbrev pub with_tape_name : Bool → ℕ → Model → Option (List ℕ) → Option Outcome
+  with_tape_name wants n m None = Some (ran wants n m None)
+  with_tape_name wants n m (Some name) = option_map (with_tape_file wants n m) (held name)
 
-  -- an accepted model runs, with the tape where one is named
-  abbrev pub with_accepted : ℕ → Option (List ℕ) → Model → Option Outcome
-  with_accepted n tape m = cond (is_smooth m) (with_tape_name n m tape) (Some (model_refused not_built))
-
-  -- the model is refused, or accepted
-  abbrev pub with_model : ℕ → Option (List ℕ) → Result Model ModelFault → Option Outcome
-  with_model n tape (Ok m) = with_accepted n tape m
-  with_model n tape (Err fault) = Some (model_refused fault)
+  -- the model is refused, or accepted, and then it runs
+  abbrev pub with_model : Bool → ℕ → Option (List ℕ) → Result Model ModelFault → Option Outcome
+  with_model wants n tape (Ok m) = with_tape_name wants n m tape
+  with_model wants n tape (Err fault) = Some (model_refused fault)
 
   -- the outcome of a model's file: of what its bytes are judged to be
-  abbrev pub IsFileOutcome : ℕ → Option (List ℕ) → List ℕ → Outcome → Type 0
-  IsFileOutcome n tape bytes outcome =
-      (judged : Result Model ModelFault) × (told judged ≡ judged_bytes bytes) × (with_model n tape judged ≡ Some outcome)
+  abbrev pub IsFileOutcome : Bool → ℕ → Option (List ℕ) → List ℕ → Outcome → Type 0
+  IsFileOutcome wants n tape bytes outcome =
+      (judged : Result Model ModelFault) × (told judged ≡ judged_bytes bytes) × (with_model wants n tape judged ≡ Some outcome)
 
   -- `run`: of the model's file
   abbrev pub IsRunOutcome : List (List ℕ) → Outcome → Type 0
   IsRunOutcome words outcome =
-      (file : List ℕ) × (held (model_of words) ≡ Some file) × IsFileOutcome (step_count words) (tape_of words) (take model_cap file) outcome
+      (file : List ℕ) × (held (model_of words) ≡ Some file)
+      × IsFileOutcome (wants_dual words) (step_count words) (tape_of words) (take model_cap file) outcome
 
   -- of each command
   abbrev pub IsCommandOutcome : Command → List (List ℕ) → Outcome → Type 0

@@ -1,21 +1,18 @@
 // A bench: a generated model runs with a generated tape, and its steps are summed.
-ghost use Rattle.std.specs.Prelude.{◌≡◌, ◌≤◌, IsTrue, length};
+ghost use Rattle.std.specs.Prelude.{◌≡◌, ◌≤◌, length};
 ghost use Rattle.mj_gen.specs.Chain.{chain_text};
-ghost use Rattle.mj_gen.specs.Tape.{tape_text};
 ghost use Rattle.mj_run.specs.Controls.{tape_of as taped, Serves};
 ghost use Rattle.mj_run.specs.Run.{start};
-ghost use Rattle.mj_step.specs.Smooth.{is_smooth};
 ghost use Rattle.mj_step.specs.Workspace.{MadeFor};
 ghost use Rattle.mj_tape.specs.Judging.{tape_verdict};
 ghost use Rattle.mj_top.specs.Ends.{Ends, EndsMeant, EndsOrMemory};
 ghost use Rattle.mj_top.specs.Outcome as spec;
 ghost use Rattle.mj_types.specs.States.{Fits};
 
-use crate::top::{TAPE_ROOM, answered, not_built, refuse_model, refuse_tape, status_of};
+use crate::top::{TAPE_ROOM, answered, refuse_model, refuse_tape, status_of};
 use mj_gen::{chain_model, sine_tape};
 use mj_io::{NoMemory, Page, Sink, finish};
 use mj_run::{Controls, Runner, sum_run};
-use mj_step::is_smooth;
 use mj_tape::tape;
 use mj_trace::send_summary;
 use mj_types::{Model, ModelCode, Status, TapeFault};
@@ -30,7 +27,6 @@ fn sum_on<S: Sink>(
     controls: &Controls,
     steps: u32,
 ) -> Status
-    requires smooth { IsTrue (is_smooth model.now) }
     requires made { MadeFor model.now runner.old.work }
     requires fits { Fits model.now runner.old.state }
     requires start { runner.old.state ≡ start model.now }
@@ -53,7 +49,6 @@ fn sum_model<S: Sink>(
     controls: &Controls,
     steps: u32,
 ) -> Status
-    requires smooth { IsTrue (is_smooth model.now) }
     requires serves { Serves controls.now (length model.now.motors) steps }
     ensures { EndsOrMemory S.holds S.faults (spec.summed steps model.now (taped controls.now))
         sink.old result sink.new }
@@ -77,7 +72,6 @@ fn sum_tape_text<S: Sink>(
     bytes: &[u8],
     steps: u32,
 ) -> Status
-    requires { IsTrue (is_smooth model.now) }
     ensures { EndsOrMemory S.holds S.faults
         (spec.with_summed_tape steps model.now
         (tape_verdict
@@ -89,30 +83,6 @@ fn sum_tape_text<S: Sink>(
             TapeFault::Memory => Status::Memory,
             _ => refuse_tape(sink, fault),
         },
-    }
-}
-
-// An accepted model that runs.
-fn sum_smooth_model<S: Sink>(
-    alloc: Global,
-    sink: &mut S,
-    model: &Model,
-    seed: u32,
-    links: u32,
-    steps: u32,
-) -> Status
-    requires smooth { IsTrue (is_smooth model.now) }
-    requires steps { steps ≤ 10000 }
-    requires links { links ≤ 64 }
-    ensures { EndsOrMemory S.holds S.faults
-        (spec.with_summed_tape steps model.now
-        (tape_verdict
-        (length model.now.motors) steps spec.tape_room (tape_text seed steps links)))
-        sink.old result sink.new }
-{
-    match sine_tape(alloc, seed, steps, links) {
-        Ok(text) => sum_tape_text(alloc, sink, model, text.as_slice(), steps),
-        Err(NoMemory) => Status::Memory,
     }
 }
 
@@ -130,10 +100,9 @@ fn bench_model<S: Sink>(
     ensures { EndsOrMemory S.holds S.faults (spec.benched seed links steps model.now)
         sink.old result sink.new }
 {
-    if is_smooth(model) {
-        sum_smooth_model(alloc, sink, model, seed, links, steps)
-    } else {
-        refuse_model(sink, not_built(alloc))
+    match sine_tape(alloc, seed, steps, links) {
+        Ok(text) => sum_tape_text(alloc, sink, model, text.as_slice(), steps),
+        Err(NoMemory) => Status::Memory,
     }
 }
 

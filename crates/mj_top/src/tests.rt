@@ -4,6 +4,7 @@ ghost use Rattle.std.specs.Prelude.{◌≤◌};
 mod generated;
 mod models;
 mod ranges;
+mod rows;
 mod runs;
 mod tape;
 

@@ -1,8 +1,8 @@
 // The top call: what a command does, from its words to its answer.
 ghost use Rattle.std.specs.Prelude.{◌≡◌, ℕ, IsTrue, None, Some, List, length, map, string_bytes};
 ghost use Rattle.std.specs.Option.{ForSome};
+ghost use Rattle.mj_step.specs.Certified.{IsCertified};
 ghost use Rattle.mj_step.specs.Covered.{IsCovered};
-ghost use Rattle.mj_step.specs.Smooth.{is_smooth};
 ghost use Rattle.mj_step.specs.Workspace.{MadeFor};
 ghost use Rattle.mj_tape.specs.Judging.{tape_verdict};
 ghost use Rattle.mj_types.specs.States.{Fits};
@@ -15,18 +15,17 @@ ghost use Rattle.mj_top.specs.Outcome as spec;
 ghost use Rattle.mj_top.specs.Ends.{Answers, WritesNothing, HasCause, Completes, HasTapeCause, AreModel, IsMeant, Ends, EndsOrMemory, unless_failed};
 
 use crate::bench::bench;
-use fx_list::Text;
 use mj_gen::chain_model;
 use mj_io::{Cabinet, CabinetFault, Failed, NoMemory, Page, Sink, finish, send};
 use mj_run::{Controls, Runner, send_run};
-use mj_step::{is_smooth, steps_are_covered};
+use mj_step::{steps_are_certified, steps_are_covered};
 use mj_tape::tape;
 use mj_trace::{send_model_refusal, send_tape_refusal, send_words_refusal};
 use mj_types::{End, Model, ModelCode, ModelFault, Status, TapeFault};
 use mj_valid::judge;
 use mj_words::{
     Command, bad_place, bench_link_count, bench_step_count, command_of, link_count, model_of,
-    seed_of, step_count, tape_of,
+    seed_of, step_count, tape_of, wants_dual,
 };
 use std::alloc::Global;
 use std::thread::Threads;
@@ -90,16 +89,6 @@ pub(crate) fn refuse_tape<S: Sink>(sink: &mut S, fault: TapeFault) -> Status
     answered(written, Status::BadTape { tape: 1, fault })
 }
 
-// The refusal of a model that may have constraint rows.
-pub(crate) fn not_built(alloc: Global) -> ModelFault
-    ensures { result ≡ spec.not_built }
-{
-    ModelFault {
-        code: ModelCode::NotBuilt,
-        path: Text::from_vec(Vec::new(alloc)),
-    }
-}
-
 // A run in the room that was made for it.
 fn run_on<S: Sink>(
     sink: &mut S,
@@ -107,17 +96,17 @@ fn run_on<S: Sink>(
     runner: &mut Runner,
     controls: &Controls,
     steps: u32,
+    wants: bool,
 ) -> Status
-    requires smooth { IsTrue (is_smooth model.now) }
     requires made { MadeFor model.now runner.old.work }
     requires fits { Fits model.now runner.old.state }
     requires start { runner.old.state ≡ start model.now }
     requires serves { Serves controls.now (length model.now.motors) steps }
-    ensures { Ends S.holds S.faults (spec.ran steps model.now (taped controls.now))
+    ensures { Ends S.holds S.faults (spec.ran wants steps model.now (taped controls.now))
         sink.old result sink.new }
 {
     let mut page = Page::new();
-    match send_run(sink, &mut page, model, runner, controls, steps) {
+    match send_run(sink, &mut page, model, runner, controls, steps, wants) {
         Ok(end) => {
             let written = finish(sink, &mut page);
             answered(written, status_of(end))
@@ -133,16 +122,16 @@ fn run_model<S: Sink>(
     model: &Model,
     controls: &Controls,
     steps: u32,
+    wants: bool,
 ) -> Status
-    requires smooth { IsTrue (is_smooth model.now) }
-    requires serves { Serves controls.now (length model.now.motors) steps }
-    ensures { EndsOrMemory S.holds S.faults (spec.ran steps model.now (taped controls.now))
+    requires { Serves controls.now (length model.now.motors) steps }
+    ensures { EndsOrMemory S.holds S.faults (spec.ran wants steps model.now (taped controls.now))
         sink.old result sink.new }
 {
     match Runner::new(alloc, model) {
         Ok(runner) => {
             let mut runner = runner;
-            let status = run_on(sink, model, &mut runner, controls, steps);
+            let status = run_on(sink, model, &mut runner, controls, steps, wants);
             drop(runner);
             status
         }
@@ -151,13 +140,18 @@ fn run_model<S: Sink>(
 }
 
 // A run without a tape.
-fn run_at_rest<S: Sink>(alloc: Global, sink: &mut S, model: &Model, steps: u32) -> Status
-    requires { IsTrue (is_smooth model.now) }
-    ensures { EndsOrMemory S.holds S.faults (spec.ran steps model.now None)
+fn run_at_rest<S: Sink>(
+    alloc: Global,
+    sink: &mut S,
+    model: &Model,
+    steps: u32,
+    wants: bool,
+) -> Status
+    ensures { EndsOrMemory S.holds S.faults (spec.ran wants steps model.now None)
         sink.old result sink.new }
 {
     match Controls::rest(alloc, model) {
-        Ok(controls) => run_model(alloc, sink, model, &controls, steps),
+        Ok(controls) => run_model(alloc, sink, model, &controls, steps, wants),
         Err(NoMemory) => Status::Memory,
     }
 }
@@ -169,15 +163,15 @@ fn run_tape_file<S: Sink>(
     model: &Model,
     bytes: &[u8],
     steps: u32,
+    wants: bool,
 ) -> Status
-    requires { IsTrue (is_smooth model.now) }
     ensures { EndsOrMemory S.holds S.faults
-        (spec.with_tape steps model.now
+        (spec.with_tape wants steps model.now
         (tape_verdict
         (length model.now.motors) steps spec.tape_room bytes.now)) sink.old result sink.new }
 {
     match tape(alloc, model, bytes, steps, TAPE_ROOM) {
-        Ok(tape) => run_model(alloc, sink, model, &Controls::Taped(tape), steps),
+        Ok(tape) => run_model(alloc, sink, model, &Controls::Taped(tape), steps, wants),
         Err(fault) => match fault {
             TapeFault::Memory => Status::Memory,
             _ => refuse_tape(sink, fault),
@@ -193,9 +187,9 @@ fn run_with_tape<C: Cabinet, S: Sink>(
     cabinet: &mut C,
     sink: &mut S,
 ) -> Status
-    requires { IsTrue (is_smooth model.now) }
     ensures outcome { IsTrue (C.tells cabinet.old) →
         Answers (λ o. spec.with_tape_name (C.holds cabinet.old)
+        (command.wants_dual (map string_bytes words.now))
         (command.step_count (map string_bytes words.now)) model.now
         (command.tape_of (map string_bytes words.now)) ≡ Some o) result (S.holds sink.old)
         (S.holds sink.new) }
@@ -203,37 +197,15 @@ fn run_with_tape<C: Cabinet, S: Sink>(
     ensures cause { HasTapeCause (command.tape_of (map string_bytes words.now)) result
         (C.faults cabinet.old) (C.faults cabinet.new) (S.faults sink.old) (S.faults sink.new) }
 {
+    let steps = step_count(words);
+    let wants = wants_dual(words);
     match tape_of(words) {
-        None => run_at_rest(alloc, sink, model, step_count(words)),
+        None => run_at_rest(alloc, sink, model, steps, wants),
         Some(name) => match cabinet.read(alloc, name, TAPE_CAP) {
-            Ok(bytes) => run_tape_file(alloc, sink, model, bytes.as_slice(), step_count(words)),
+            Ok(bytes) => run_tape_file(alloc, sink, model, bytes.as_slice(), steps, wants),
             Err(CabinetFault::Failed) => Status::ReadFault,
             Err(CabinetFault::Memory) => Status::Memory,
         },
-    }
-}
-
-// An accepted model.
-fn run_accepted_model<C: Cabinet, S: Sink>(
-    alloc: Global,
-    words: &[String],
-    model: &Model,
-    cabinet: &mut C,
-    sink: &mut S,
-) -> Status
-    ensures outcome { IsTrue (C.tells cabinet.old) →
-        Answers (λ o. spec.with_accepted (C.holds cabinet.old)
-        (command.step_count (map string_bytes words.now))
-        (command.tape_of (map string_bytes words.now)) model.now ≡ Some o) result
-        (S.holds sink.old) (S.holds sink.new) }
-    ensures nothing { WritesNothing result (S.holds sink.old) (S.holds sink.new) }
-    ensures cause { HasTapeCause (command.tape_of (map string_bytes words.now)) result
-        (C.faults cabinet.old) (C.faults cabinet.new) (S.faults sink.old) (S.faults sink.new) }
-{
-    if is_smooth(model) {
-        run_with_tape(alloc, words, model, cabinet, sink)
-    } else {
-        refuse_model(sink, not_built(alloc))
     }
 }
 
@@ -247,6 +219,7 @@ fn run_model_file<C: Cabinet, S: Sink>(
 ) -> Status
     ensures outcome { IsTrue (C.tells cabinet.old) →
         Answers (spec.IsFileOutcome (C.holds cabinet.old)
+        (command.wants_dual (map string_bytes words.now))
         (command.step_count (map string_bytes words.now))
         (command.tape_of (map string_bytes words.now)) bytes.now) result
         (S.holds sink.old) (S.holds sink.new) }
@@ -257,7 +230,7 @@ fn run_model_file<C: Cabinet, S: Sink>(
 {
     match judge(alloc, bytes) {
         Ok(model) => {
-            let status = run_accepted_model(alloc, words, &model, cabinet, sink);
+            let status = run_with_tape(alloc, words, &model, cabinet, sink);
             drop(model);
             status
         }
@@ -350,7 +323,9 @@ fn run_accepted<C: Cabinet, S: Sink>(
 /// tells. `cause`: when each answer may come. `complete`: where no count rose, the answer is the
 /// outcome's, or `Memory`. `covered`: in every step of every run the printed radii cover what rounding
 /// did to the mass matrix and to the bias forces, and the printed residual is the largest error of the
-/// equation of motion.
+/// equation of motion. `certified`: in every step of every run the printed forces are feasible, every
+/// feasible rational force costs at least the printed bound in the dual of the state that the step starts
+/// from, and every one that costs no more than the printed forces lies in the printed box.
 pub fn run_words<R: Threads + Sync, C: Cabinet, S: Sink>(
     _rt: &R,
     alloc: Global,
@@ -374,8 +349,11 @@ pub fn run_words<R: Threads + Sync, C: Cabinet, S: Sink>(
         (S.faults sink.old) (S.faults sink.new) }
     ensures covered { (model : Model) (controls : ℕ → List Control) (k : ℕ)
         → IsCovered model (state_at model controls k) (controls k) }
+    ensures certified { (model : Model) (controls : ℕ → List Control) (k : ℕ)
+        → IsCertified model (state_at model controls k) (controls k) }
 {
     steps_are_covered();
+    steps_are_certified();
     match bad_place(words) {
         Some(at) => refuse_words(sink, at),
         None => run_accepted(alloc, words, cabinet, sink),

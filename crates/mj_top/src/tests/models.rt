@@ -3,7 +3,7 @@ use super::{RUN_3, SLIDE, is_told, swapped, tell};
 use std::test::Fail;
 
 // The slide with a part made another, and the line of its first fault.
-const REFUSALS: [(&str, &str, &str); 39] = [
+const REFUSALS: [(&str, &str, &str); 36] = [
     (
         "timestep = \"0.25\"",
         "timestep = 0.25",
@@ -163,17 +163,6 @@ const REFUSALS: [(&str, &str, &str); 39] = [
         "\"slide\"\n[keyframe]\nqvel = [4097]\n",
         "LimitPassed keyframe.qvel",
     ),
-    ("\"slide\"", "\"slide\"\nrange = [0, 4]", "NotBuilt"),
-    (
-        "\"slide\"\n",
-        "\"slide\"\n[[body.geom]]\nsize = [1]\n",
-        "NotBuilt",
-    ),
-    (
-        "\"slide\"\n",
-        "\"slide\"\n[[geom]]\ntype = \"plane\"\n",
-        "NotBuilt",
-    ),
     ("[option]", "[option", "NotToml"),
 ];
 
@@ -246,7 +235,6 @@ fn equalities_are_judged(rt: HostRuntime) -> Result<(), Fail> {
     }
     let line = "refused model LimitPassed equality\n";
     assert!(rt; is_told(&rt, alloc, many.as_str(), &RUN_3, 4, line)?);
-    assert!(rt; is_told(&rt, alloc, TIED, &RUN_3, 4, "refused model NotBuilt\n")?);
     Ok(())
 }
 

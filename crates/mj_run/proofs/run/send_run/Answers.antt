@@ -10,7 +10,7 @@ returns-clause-sent g c =
     let m = c.args.model.now in
     let driven = controls_at (length m.motors) (tape_of c.args.controls.now) in
     sent-then (sent-then c.send_header.ensures.sent c.in_ok-end.ensures.sent refl) c.send_end.ensures.sent
-    (ap (λ end. (header_text m.format m.nq m.nv c.args.steps ++ done_blocks m driven c.args.steps) ++ end_text end) (sym c.in_ok-end.ensures.end))
+    (ap (λ end. (header_text m.format m.nq m.nv c.args.steps ++ done_blocks m driven c.args.wants c.args.steps) ++ end_text end) (sym c.in_ok-end.ensures.end))
 
 pub returns-in_err-end-clause-sent : goal.returns-in_err-end-clause-sent
 returns-in_err-end-clause-sent g c =

@@ -3,10 +3,10 @@ use Rattle.fx_whole.proofs.JoinedLaws.{joined-none}
 use Rattle.mj_io.proofs.Sent.{sent-then, sent-nothing, sent-past}
 use Rattle.mj_passive.specs.Forces.{AreControls}
 use Rattle.mj_types.specs.Control.{Control}
-use Rattle.mj_step.specs.Steps.{step_state, step_values, step_fault}
+use Rattle.mj_step.specs.Steps.{step_state, step_values, dual_at, step_fault}
 use Rattle.mj_trace.specs.Block.{block_text}
 use Rattle.mj_run.specs.Controls.{controls_at, tape_of}
-use Rattle.mj_run.specs.Run.{state_at, block_at, blocks_text, done_of}
+use Rattle.mj_run.specs.Run.{asked, state_at, block_at, blocks_text, done_of}
 use Rattle.mj_run.proofs.ControlLaws.{controls-lawful}
 use Rattle.mj_run.proofs.Steps.{whole, done-early, end-early, blocks-prefix, done-least, state-more, passed-more, refused-here, text-more}
 use Rattle.mj_run.proofs.run.send_steps.Goals as goal
@@ -21,7 +21,7 @@ loop-done-init g c =
       fits = c.requires.fits;
       state = c.requires.start;
       passed = refl;
-      sent = rw (joined-none (block_at m driven)) (sent-nothing g.S.Sink.holds g.S.Sink.faults c.args.sink.now c.args.page.now);
+      sent = rw (joined-none (block_at m driven c.args.wants)) (sent-nothing g.S.Sink.holds g.S.Sink.faults c.args.sink.now c.args.page.now);
     }
 
 pub send_step-requires-clause-controls : goal.send_step-requires-clause-controls
@@ -47,8 +47,8 @@ loop-done-preserved g c =
       state = state-more m driven k s c.send_step.new.runner.state so_far.state (c.in-Ok.ensures.state ∙ ap (step_state m s) row);
       passed = passed-more m driven k s so_far.state so_far.passed (ap (step_fault m s) (sym row) ∙ sym c.in-Ok.ensures.first);
       sent = sent-then so_far.sent c.in-Ok.ensures.sent
-          (text-more m driven k s so_far.state
-          ∙ ap (λ u. blocks_text m driven k ++ block_text m.format m.nq m.nv (k + 1) (step_values m s u) None) (sym row));
+          (text-more m driven c.args.wants k s so_far.state
+          ∙ ap (λ u. blocks_text m driven c.args.wants k ++ block_text m.format m.nq m.nv (k + 1) (step_values m s u) (asked c.args.wants (dual_at m s u))) (sym row));
     }
 
 -- a step was refused
@@ -86,11 +86,11 @@ returns-then-not-is_going-clause-sent g c =
     let s = c.loop-done.runner.state in
     let so_far = c.loop-done.invariant in
     let row = c.at-row.ensures.value ∙ ap (λ w. controls_at w (tape_of controls) k) c.len.ensures in
-    let more = text-more m driven k s so_far.state
-    ∙ ap (λ u. blocks_text m driven k ++ block_text m.format m.nq m.nv (k + 1) (step_values m s u) None) (sym row) in
+    let more = text-more m driven c.args.wants k s so_far.state
+    ∙ ap (λ u. blocks_text m driven c.args.wants k ++ block_text m.format m.nq m.nv (k + 1) (step_values m s u) (asked c.args.wants (dual_at m s u))) (sym row) in
     let passed = passed-more m driven k s so_far.state so_far.passed (ap (step_fault m s) (sym row) ∙ sym c.in-Ok.ensures.first) in
     let least = done-least m driven (k + 1) c.args.steps (omega arith) passed in
-    let rest = blocks-prefix m driven (k + 1) (done_of m driven c.args.steps) least in
+    let rest = blocks-prefix m driven c.args.wants (k + 1) (done_of m driven c.args.steps) least in
     sent-past rest.0 (sent-then so_far.sent c.in-Ok.ensures.sent more) rest.1 cc
 
 pub returns : goal.returns

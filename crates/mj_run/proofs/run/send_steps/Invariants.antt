@@ -15,5 +15,5 @@ invariant-loop-done g l =
       fits : Fits l.model l.runner.state;
       state : l.runner.state ≡ state_at l.model driven l.done;
       passed : first_to l.done (refusal_at l.model driven) ≡ None;
-      sent : Sent g.S.Sink.holds g.S.Sink.faults l.initial.sink l.initial.page (blocks_text l.model driven l.done) l.sink l.page;
+      sent : Sent g.S.Sink.holds g.S.Sink.faults l.initial.sink l.initial.page (blocks_text l.model driven l.wants l.done) l.sink l.page;
     }

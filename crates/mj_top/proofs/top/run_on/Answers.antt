@@ -11,7 +11,7 @@ pub returns-in-Ok : goal.returns-in-Ok
 returns-in-Ok g c =
     let m = c.args.model.now in
     let tape = tape_of c.args.controls.now in
-    ends-from_wrote g.S.Sink.holds g.S.Sink.faults c.args.sink.now c.finish-written.new.sink c.finish-written.result (ran c.args.steps m tape) c.answered.result
+    ends-from_wrote g.S.Sink.holds g.S.Sink.faults c.args.sink.now c.finish-written.new.sink c.finish-written.result (ran c.args.wants c.args.steps m tape) c.answered.result
     (told-status_of (end_of m (controls_at (length m.motors) tape) c.args.steps))
     (wrote-finished c.finish-written.result c.new-page.ensures c.in-Ok.ensures.sent c.finish-written.ensures.sent)
     (c.answered.ensures ∙ ap (unless_failed c.finish-written.result) (c.status_of.ensures ∙ ap status_of c.in-Ok.ensures.end))

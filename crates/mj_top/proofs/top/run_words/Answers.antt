@@ -30,6 +30,7 @@ returns-in-Some g c =
       cause = cause;
       complete = λ told. completes words tells held answer (g.S.Sink.holds before) (g.S.Sink.holds after) counts counts (g.S.Sink.faults before) (g.S.Sink.faults after) answers cause;
       covered = λ (m : Model) (controls : ℕ → List Control) (k : ℕ). c.steps_are_covered.ensures m (state_at m controls k) (controls k);
+      certified = λ (m : Model) (controls : ℕ → List Control) (k : ℕ). c.steps_are_certified.ensures m (state_at m controls k) (controls k);
     }
 
 pub returns-in-None-clause-complete : goal.returns-in-None-clause-complete
@@ -42,3 +43,6 @@ returns-in-None-clause-complete g c = λ told.
 
 pub returns-in-None-clause-covered : goal.returns-in-None-clause-covered
 returns-in-None-clause-covered g c = λ (m : Model) (controls : ℕ → List Control) (k : ℕ). c.steps_are_covered.ensures m (state_at m controls k) (controls k)
+
+pub returns-in-None-clause-certified : goal.returns-in-None-clause-certified
+returns-in-None-clause-certified g c = λ (m : Model) (controls : ℕ → List Control) (k : ℕ). c.steps_are_certified.ensures m (state_at m controls k) (controls k)

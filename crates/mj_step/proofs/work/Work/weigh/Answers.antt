@@ -89,3 +89,10 @@ returns-clause-bias c =
       small = c.in_ok-bias.ensures.ranges.value_;
       small_radii = λ i h d. omega (arith, c.in_ok-bias.ensures.ranges.radius_ i h d);
     }
+
+pub returns-clause-frames : goal.returns-clause-frames
+returns-clause-frames c = record {
+  values = c.in_ok-frames.ensures.values;
+  ranges = c.in_ok-frames.ensures.ranges;
+  units = c.in_ok-frames.ensures.units;
+}
