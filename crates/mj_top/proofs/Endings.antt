@@ -1,5 +1,5 @@
 -- Laws of how a command ends.
-use Rattle.std.proofs.Common.{◌≡◌, inl, inr, ℕ, Bool, List, Option, Some, None, Result, Ok, Err, option_map, cond, length, take, refl, sym, ap, ◌∙◌, subst}
+use Rattle.std.proofs.Common.{◌≡◌, inl, inr, ℕ, Bool, true, false, List, Option, Some, None, Result, Ok, Err, option_map, cond, length, take, refl, sym, ap, ◌∙◌, subst}
 use Rattle.mj_io.specs.Faults.{Rose}
 use Rattle.mj_io.specs.Growth.{Grew}
 use Rattle.mj_io.specs.Sent.{Wrote}
@@ -10,15 +10,16 @@ use Rattle.mj_types.specs.declared.status.ModelFault.{ModelFault}
 use Rattle.mj_types.specs.declared.status.Status.{Status}
 use Rattle.mj_types.specs.declared.status.Status.TheVariants as status
 use Rattle.mj_types.specs.declared.tape.TapeFault.{TapeFault}
-use Rattle.mj_tape.specs.Judging.{TapeValues}
+use Rattle.mj_gen.specs.Tape.{tape_text}
+use Rattle.mj_tape.specs.Judging.{TapeValues, tape_verdict}
 use Rattle.mj_run.specs.Controls.{controls_at}
 use Rattle.mj_run.specs.Run.{end_of}
 use Rattle.mj_valid.specs.Judging.{told, judged_bytes}
 use Rattle.mj_words.specs.declared.table.Command.{Command}
 use Rattle.mj_words.specs.declared.table.Command.TheVariants as command
 use Rattle.mj_words.specs.Words.{bad_place, command_of, model_of, step_count, tape_of, wants_dual}
-use Rattle.mj_top.specs.Outcome.{Outcome, IsOutcome, IsFileOutcome, IsCommandOutcome, IsWordsOutcome, words_refused, status_of, with_tape, with_tape_file, with_tape_name, with_model, model_cap}
-use Rattle.mj_top.specs.Ends.{Answers, WritesNothing, HasCause, Completes, RunReadRose, CommandReadRose, ReadRose, TapeRose, HasTapeCause, Ends, EndsOrMemory, unless_failed}
+use Rattle.mj_top.specs.Outcome.{Outcome, IsOutcome, IsFileOutcome, IsCommandOutcome, IsWordsOutcome, words_refused, status_of, tape_room, with_summed_tape, bench_of, IsBenchOutcome, with_tape, with_tape_file, with_tape_name, with_model, model_cap}
+use Rattle.mj_top.specs.Ends.{Answers, WritesNothing, HasCause, Completes, RunReadRose, CommandReadRose, ReadRose, TapeRose, HasTapeCause, Ends, EndsOrMemory, EndsMeant, unless_failed}
 
 -- a status that tells of an outcome, and of no fault
 abbrev pub IsTold : Status → Type 0
@@ -148,6 +149,43 @@ module _ {K : Type 0} (holds : K → Option (List ℕ)) (faults : K → ℕ) (a 
       let P = λ (s : Status). HasTapeCause tape s reads reads' (faults a) (faults b) in
       subst P (sym wanted.0) tt
   tape_cause-from_either tape outcome answer reads reads' later (inr ends) = tape_cause-from_ends tape outcome answer reads reads' later ends
+
+module _ {K : Type 0} (holds : K → Option (List ℕ)) (faults : K → ℕ) (a b : K) (Meant : Outcome → Type 0) (answer : Status) where
+  pub meant-from_either : (outcome : Outcome) → Meant outcome → EndsOrMemory holds faults outcome a answer b → EndsMeant holds faults Meant a answer b
+  meant-from_either outcome meant (inl wanted) = inl wanted
+  meant-from_either outcome meant (inr ends) = inr (outcome, meant, ends)
+
+  pub answers-from_meant : EndsMeant holds faults Meant a answer b → Answers Meant answer (holds a) (holds b)
+  answers-from_meant (inl wanted) =
+      let P = λ (s : Status). Answers Meant s (holds a) (holds b) in
+      subst P (sym wanted.0) (ap holds wanted.1)
+  answers-from_meant (inr ends) = answers-from_ends holds faults a b Meant ends.0 answer ends.1 ends.2
+
+  pub nothing-from_meant : EndsMeant holds faults Meant a answer b → WritesNothing answer (holds a) (holds b)
+  nothing-from_meant (inl wanted) =
+      let P = λ (s : Status). WritesNothing s (holds a) (holds b) in
+      subst P (sym wanted.0) (ap holds wanted.1)
+  nothing-from_meant (inr ends) = nothing-from_ends holds faults a b ends.0 answer ends.2
+
+  pub tape_cause-from_meant : (tape : Option (List ℕ)) (reads reads' : List ℕ → ℕ) → ((o : Outcome) → Meant o → IsLater o.status) → EndsMeant holds faults Meant a answer b → HasTapeCause tape answer reads reads' (faults a) (faults b)
+  tape_cause-from_meant tape reads reads' later (inl wanted) =
+      let P = λ (s : Status). HasTapeCause tape s reads reads' (faults a) (faults b) in
+      subst P (sym wanted.0) tt
+  tape_cause-from_meant tape reads reads' later (inr ends) = tape_cause-from_ends holds faults a b tape ends.0 answer reads reads' (later ends.0 ends.1) ends.2
+
+-- ---- a bench comes after the words
+later-summed : (n : ℕ) (m : Model) (answer : Result TapeValues TapeFault) → IsLater (with_summed_tape n m answer).status
+later-summed n m (Ok tape) = later-status_of (end_of m (controls_at (length m.motors) (Some tape)) n)
+later-summed n m (Err fault) = tt
+
+later-bench : (seed links n : ℕ) (judged : Result Model ModelFault) → IsLater (bench_of seed links n judged).status
+later-bench seed links n (Ok m) =
+    later-summed n m (tape_verdict (length m.motors) n tape_room (tape_text seed n links))
+later-bench seed links n (Err fault) = tt
+
+pub bench-later : (seed links n : ℕ) (o : Outcome) → IsBenchOutcome seed links n o → IsLater o.status
+bench-later seed links n o meant =
+    let P = λ (x : Outcome). IsLater x.status in subst P (sym meant.2) (later-bench seed links n meant.0)
 
 -- the cause that follows the model's, as the whole command's, from counts that stood lower before the model was read
 pub cause-from_tape : (words : List (List ℕ)) (tells : Bool) (held : List ℕ → Option (List ℕ)) (tape : Option (List ℕ)) (answer : Status) (reads reads' : List ℕ → ℕ) (writes writes' : ℕ) → bad_place words ≡ None → (TapeRose tape reads reads' → answer ≡ status.ReadFault → ReadRose words tells held reads reads') → HasTapeCause tape answer reads reads' writes writes' → HasCause words tells held answer reads reads' writes writes'

@@ -62,6 +62,7 @@ abbrev pub CommandReadRose : Command
     → List (List ℕ) → Bool → (List ℕ → Option (List ℕ)) → (List ℕ → ℕ) → (List ℕ → ℕ) → Type 0
 CommandReadRose command.Run words tells held reads reads' = RunReadRose words tells held reads reads'
 CommandReadRose command.Gen words tells held reads reads' = ⊥
+CommandReadRose command.Bench words tells held reads reads' = ⊥
 
 abbrev pub ReadRose :
     List (List ℕ) → Bool → (List ℕ → Option (List ℕ)) → (List ℕ → ℕ) → (List ℕ → ℕ) → Type 0
@@ -109,6 +110,12 @@ abbrev pub EndsOrMemory :
     {K : Type 0} → (K → Option (List ℕ)) → (K → ℕ) → Outcome → K → Status → K → Type 0
 EndsOrMemory holds faults outcome old answer new =
     ((answer ≡ status.Memory) × (new ≡ old)) ⊎ Ends holds faults outcome old answer new
+
+-- the same, of one of the outcomes that are meant
+abbrev pub EndsMeant :
+    {K : Type 0} → (K → Option (List ℕ)) → (K → ℕ) → (Outcome → Type 0) → K → Status → K → Type 0
+EndsMeant holds faults Meant old answer new =
+    ((answer ≡ status.Memory) × (new ≡ old)) ⊎ ((outcome : Outcome) × Meant outcome × Ends holds faults outcome old answer new)
 
 -- the status, unless the writing failed
 abbrev pub unless_failed : {T E : Type 0} → Result T E → Status → Status

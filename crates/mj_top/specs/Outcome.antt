@@ -8,6 +8,7 @@ use Rattle.mj_types.specs.declared.status.Status.{Status}
 use Rattle.mj_types.specs.declared.status.Status.TheVariants as status
 use Rattle.mj_types.specs.declared.tape.TapeFault.{TapeFault}
 use Rattle.mj_gen.specs.Chain.{chain_text}
+use Rattle.mj_gen.specs.Tape.{tape_text}
 use Rattle.mj_tape.specs.Judging.{TapeValues, tape_verdict}
 use Rattle.mj_trace.specs.Refusal.{words_refusal, model_refusal, tape_refusal}
 use Rattle.mj_valid.specs.Judging.{told, judged_bytes}
@@ -16,6 +17,7 @@ use Rattle.mj_words.specs.declared.table.Command.{Command}
 use Rattle.mj_words.specs.declared.table.Command.TheVariants as command
 use Rattle.mj_words.specs.Words.{bad_place, command_of, model_of, step_count, wants_dual, tape_of, seed_of, link_count}
 use Rattle.mj_run.specs.Run.{end_of, trace_text}
+use Rattle.mj_run.specs.Summing.{run_summary_text}
 
 -- an answer and a text
 pub record Outcome : Type 0 where
@@ -74,6 +76,33 @@ tape_cap = 67108865
 abbrev pub with_tape_file : Bool → ℕ → Model → List ℕ → Outcome
 with_tape_file wants n m held = with_tape wants n m (tape_verdict (length m.motors) n tape_room (take tape_cap held))
 
+-- the steps of a run with this tape are summed
+abbrev pub summed : ℕ → Model → Option TapeValues → Outcome
+summed n m tape = record {
+  status = status_of (end_of m (controls_at (length m.motors) tape) n);
+  text = run_summary_text m (controls_at (length m.motors) tape) n;
+}
+
+-- the tape is refused, or the run with it is summed
+abbrev pub with_summed_tape : ℕ → Model → Result TapeValues TapeFault → Outcome
+with_summed_tape n m (Ok tape) = summed n m (Some tape)
+with_summed_tape n m (Err fault) = tape_refused fault
+
+-- an accepted model of so many links runs n steps with the generated tape
+abbrev pub benched : ℕ → ℕ → ℕ → Model → Outcome
+benched seed links n m =
+    with_summed_tape n m (tape_verdict (length m.motors) n tape_room (tape_text seed n links))
+
+-- the generated model is refused, or accepted
+abbrev pub bench_of : ℕ → ℕ → ℕ → Result Model ModelFault → Outcome
+bench_of seed links n (Ok m) = benched seed links n m
+bench_of seed links n (Err fault) = model_refused fault
+
+-- `bench`: of the generated model, which is judged as a file is
+abbrev pub IsBenchOutcome : ℕ → ℕ → ℕ → Outcome → Type 0
+IsBenchOutcome seed links n outcome =
+    (judged : Result Model ModelFault) × (told judged ≡ judged_bytes (chain_text seed links)) × (outcome ≡ bench_of seed links n judged)
+
 module _ (held : List ℕ → Option (List ℕ)) where
   -- no tape is named, or its file is read; none where nothing is held under that name
   abbrev pub with_tape_name : Bool → ℕ → Model → Option (List ℕ) → Option Outcome
@@ -100,6 +129,8 @@ module _ (held : List ℕ → Option (List ℕ)) where
   abbrev pub IsCommandOutcome : Command → List (List ℕ) → Outcome → Type 0
   IsCommandOutcome command.Run words outcome = IsRunOutcome words outcome
   IsCommandOutcome command.Gen words outcome = outcome ≡ generated (seed_of words) (link_count words)
+  IsCommandOutcome command.Bench words outcome =
+      IsBenchOutcome (seed_of words) (link_count words) (step_count words) outcome
 
   -- the words are refused, or do what their command does
   abbrev pub IsWordsOutcome : List (List ℕ) → Option ℕ → Outcome → Type 0

@@ -1,6 +1,7 @@
 //! The top call.
 #![tactic(auto)]
 
+mod bench;
 #[cfg(test)]
 mod tests;
 pub mod top;

@@ -14,6 +14,7 @@ ghost use Rattle.mj_run.specs.Run.{start, state_at};
 ghost use Rattle.mj_top.specs.Outcome as spec;
 ghost use Rattle.mj_top.specs.Ends.{Answers, WritesNothing, HasCause, Completes, HasTapeCause, AreModel, IsMeant, Ends, EndsOrMemory, unless_failed};
 
+use crate::bench::bench;
 use mj_gen::chain_model;
 use mj_io::{Cabinet, CabinetFault, Failed, NoMemory, Page, Sink, finish, send};
 use mj_run::{Controls, Runner, send_run};
@@ -23,7 +24,8 @@ use mj_trace::{send_model_refusal, send_tape_refusal, send_words_refusal};
 use mj_types::{End, Model, ModelCode, ModelFault, Status, TapeFault};
 use mj_valid::judge;
 use mj_words::{
-    Command, bad_place, command_of, link_count, model_of, seed_of, step_count, tape_of, wants_dual,
+    Command, bad_place, bench_link_count, bench_step_count, command_of, link_count, model_of,
+    seed_of, step_count, tape_of, wants_dual,
 };
 use std::alloc::Global;
 use std::thread::Threads;
@@ -35,10 +37,10 @@ const MODEL_CAP: usize = 1_048_577;
 const TAPE_CAP: usize = 67_108_865;
 
 /// How many values the tapes of a command may hold together.
-const TAPE_ROOM: usize = 4_000_000;
+pub(crate) const TAPE_ROOM: usize = 4_000_000;
 
 // The status, unless the writing failed.
-fn answered(written: Result<(), Failed>, status: Status) -> Status
+pub(crate) fn answered(written: Result<(), Failed>, status: Status) -> Status
     ensures { result ≡ unless_failed written status }
 {
     match written {
@@ -48,7 +50,7 @@ fn answered(written: Result<(), Failed>, status: Status) -> Status
 }
 
 // The answer to a run's end.
-fn status_of(end: End) -> Status
+pub(crate) fn status_of(end: End) -> Status
     ensures { result ≡ spec.status_of end }
 {
     match end {
@@ -68,7 +70,7 @@ fn refuse_words<S: Sink>(sink: &mut S, at: usize) -> Status
 }
 
 // A refused model.
-fn refuse_model<S: Sink>(sink: &mut S, fault: ModelFault) -> Status
+pub(crate) fn refuse_model<S: Sink>(sink: &mut S, fault: ModelFault) -> Status
     ensures { Ends S.holds S.faults (spec.model_refused fault) sink.old result sink.new }
 {
     let mut page = Page::new();
@@ -78,7 +80,7 @@ fn refuse_model<S: Sink>(sink: &mut S, fault: ModelFault) -> Status
 }
 
 // A refused tape.
-fn refuse_tape<S: Sink>(sink: &mut S, fault: TapeFault) -> Status
+pub(crate) fn refuse_tape<S: Sink>(sink: &mut S, fault: TapeFault) -> Status
     ensures { Ends S.holds S.faults (spec.tape_refused fault) sink.old result sink.new }
 {
     let mut page = Page::new();
@@ -302,11 +304,18 @@ fn run_accepted<C: Cabinet, S: Sink>(
     match command_of(words) {
         Command::Run => run_files(alloc, words, cabinet, sink),
         Command::Gen => generate(alloc, sink, seed_of(words), link_count(words)),
+        Command::Bench => bench(
+            alloc,
+            sink,
+            seed_of(words),
+            bench_link_count(words),
+            bench_step_count(words),
+        ),
     }
 }
 
 /// Does what the words' command does, and writes its text, or the one line of a refusal, to the sink:
-/// `run` reads a model from the cabinet, runs it and writes the trace; `gen` writes a generated model.
+/// `run` reads a model from the cabinet, runs it and writes the trace; `gen` writes a generated model; `bench` runs one with a generated tape and writes the summary.
 ///
 /// `outcome`: where the cabinet tells, the answer and what the sink gains are those of the outcome for
 /// these words and files, but for `ReadFault`, `WriteFault` and `Memory`. `nothing`: after `ReadFault`

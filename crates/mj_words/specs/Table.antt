@@ -15,7 +15,7 @@ use Rattle.mj_words.specs.declared.table.Rule.{Rule}
 -- the command that a text is
 abbrev pub command_named : List ℕ → Option Command
 command_named text =
-    cond (bytes_eq text (codes "run")) (Some command.Run) (cond (bytes_eq text (codes "gen")) (Some command.Gen) None)
+    cond (bytes_eq text (codes "run")) (Some command.Run) (cond (bytes_eq text (codes "gen")) (Some command.Gen) (cond (bytes_eq text (codes "bench")) (Some command.Bench) None))
 
 -- the text of a name
 abbrev pub text_of : Name → List ℕ
@@ -47,6 +47,11 @@ optional form = record { times = 1; required = false; form = form }
 abbrev pub foreign : Rule
 foreign = record { times = 0; required = false; form = form.FileName }
 
+-- the largest number that is allowed
+abbrev pub most_of : Form → ℕ
+most_of (form.Number least most) = most
+most_of other = 0
+
 -- ---- the rows of the table
 
 abbrev pub run_rule : Name → Rule
@@ -61,9 +66,16 @@ gen_rule name.Links = required (form.Number 1 64)
 gen_rule name.Seed = required (form.Number 0 4294967295)
 gen_rule other = foreign
 
+abbrev pub bench_rule : Name → Rule
+bench_rule name.Links = required (form.Number 1 64)
+bench_rule name.Seed = required (form.Number 0 4294967295)
+bench_rule name.Steps = required (form.Number 0 10000)
+bench_rule other = foreign
+
 abbrev pub rule : Command → Name → Rule
 rule command.Run name = run_rule name
 rule command.Gen name = gen_rule name
+rule command.Bench name = bench_rule name
 
 -- the rule for a text in a name's place
 abbrev pub rule_from : Command → Option Name → Rule

@@ -1,5 +1,5 @@
 // Numbers as words write them.
-ghost use Rattle.std.specs.Prelude.{◌≡◌, ◌+◌, min};
+ghost use Rattle.std.specs.Prelude.{◌≡◌, ◌+◌, ◌≤◌, min, IfSome};
 ghost use Rattle.std.specs.List.{list_all};
 ghost use Rattle.mj_words.specs.Numbers as spec;
 
@@ -44,7 +44,8 @@ fn capped_value(digits: &[u8], most: u32) -> u64
 }
 
 fn number_up_to(text: &[u8], most: u32) -> Option<u32>
-    ensures { result ≡ spec.number_up_to most text.now }
+    ensures value { result ≡ spec.number_up_to most text.now }
+    ensures most { IfSome result (λ n. n ≤ most) }
 {
     if !is_number(text) {
         return None;
@@ -59,7 +60,8 @@ fn number_up_to(text: &[u8], most: u32) -> Option<u32>
 
 // The number from `least` to `most` that a word writes.
 pub(crate) fn number_within(text: &[u8], least: u32, most: u32) -> Option<u32>
-    ensures { result ≡ spec.number_within least most text.now }
+    ensures value { result ≡ spec.number_within least most text.now }
+    ensures most { IfSome result (λ n. n ≤ most) }
 {
     match number_up_to(text, most) {
         Some(n) => { if least <= n { Some(n) } else { None } }

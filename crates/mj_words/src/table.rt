@@ -9,6 +9,8 @@ pub enum Command {
     Run,
     /// A model is generated.
     Gen,
+    /// A generated model runs with a generated tape, and its steps are summed.
+    Bench,
 }
 
 /// A name, after which a value stands.
@@ -59,6 +61,8 @@ impl Command {
             Some(Command::Run)
         } else if text == "gen" {
             Some(Command::Gen)
+        } else if text == "bench" {
+            Some(Command::Bench)
         } else {
             None
         }
@@ -71,6 +75,7 @@ impl Command {
         match self {
             Command::Run => run_rule(name),
             Command::Gen => gen_rule(name),
+            Command::Bench => bench_rule(name),
         }
     }
 
@@ -178,6 +183,23 @@ fn gen_rule(name: Name) -> Rule
         Name::Seed => required(Form::Number {
             least: 0,
             most: 4_294_967_295,
+        }),
+        _ => foreign(),
+    }
+}
+
+fn bench_rule(name: Name) -> Rule
+    ensures { result ≡ spec.bench_rule name }
+{
+    match name {
+        Name::Links => required(Form::Number { least: 1, most: 64 }),
+        Name::Seed => required(Form::Number {
+            least: 0,
+            most: 4_294_967_295,
+        }),
+        Name::Steps => required(Form::Number {
+            least: 0,
+            most: 10_000,
         }),
         _ => foreign(),
     }

@@ -1,9 +1,9 @@
 // Judging the words after the program's name. It takes no memory.
-ghost use Rattle.std.specs.Prelude.{◌≡◌, ◌+◌, ◌*◌, ◌<◌, ◌≤◌, ◌^◌, map, length, None, option_map, string_bytes};
+ghost use Rattle.std.specs.Prelude.{◌≡◌, ◌+◌, ◌*◌, ◌<◌, ◌≤◌, ◌^◌, map, length, None, IfSome, option_map, string_bytes};
 ghost use Rattle.std.specs.List.{list_all};
 ghost use Rattle.fx_whole.specs.Counting.{count_to};
 ghost use Rattle.mj_words.specs.Accepted.{AcceptedHaveNoBadPlace};
-ghost use Rattle.mj_words.specs.Table.{all_names};
+ghost use Rattle.mj_words.specs.Table.{all_names, rule, most_of};
 ghost use Rattle.mj_words.specs.Words as spec;
 
 use crate::numbers::number_within;
@@ -41,7 +41,8 @@ fn is_yes_or_no(text: &str) -> bool
 
 // The number that a value writes, where a number is asked for.
 fn number_as(form: Form, text: &str) -> Option<u32>
-    ensures { result ≡ spec.number_as form text.now }
+    ensures value { result ≡ spec.number_as form text.now }
+    ensures most { IfSome result (λ n. n ≤ most_of form) }
 {
     match form {
         Form::Number { least, most } => number_within(text.as_bytes(), least, most),
@@ -210,11 +211,16 @@ pub fn bad_place(words: &[String]) -> Option<usize>
 
 // The number that is given under a name.
 fn number_under(words: &[String], name: Name) -> u32
-    ensures { result ≡ spec.number_under (map string_bytes words.now) name }
+    ensures value { result ≡ spec.number_under (map string_bytes words.now) name }
+    ensures most { result
+        ≤ most_of (rule (spec.command_of (map string_bytes words.now)) name).form }
 {
     let form = command_of(words).rule(name).form;
     match given(words, name.text()) {
-        Some(text) => number_as(form, text).unwrap_or(0),
+        Some(text) => match number_as(form, text) {
+            Some(n) => n,
+            None => 0,
+        },
         None => 0,
     }
 }
@@ -270,11 +276,17 @@ fn is_nth(words: &[String], k: usize, j: usize) -> bool
     is_tape(words, j) && tapes_before(words, j) == k
 }
 
-/// How many tapes the words name.
-pub fn tape_count(words: &[String]) -> usize
+fn all_tapes(words: &[String]) -> usize
     ensures { result ≡ spec.tape_count (map string_bytes words.now) }
 {
     tapes_before(words, words.len().saturating_sub(1) / 2)
+}
+
+/// How many tapes the words name.
+pub fn tape_count(words: &[String]) -> usize
+    ensures value { result ≡ spec.tape_count (map string_bytes words.now) }
+{
+    all_tapes(words)
 }
 
 /// The name of the file of the tape that the words name after `k` others.
@@ -308,6 +320,24 @@ pub fn seed_of(words: &[String]) -> u32
     ensures { result ≡ spec.seed_of (map string_bytes words.now) }
 {
     number_under(words, Name::Seed)
+}
+
+/// How many steps accepted words of a bench ask for.
+pub fn bench_step_count(words: &[String]) -> u32
+    requires { spec.command_of (map string_bytes words.now) ≡ Command.Bench }
+    ensures value { result ≡ spec.step_count (map string_bytes words.now) }
+    ensures few { result ≤ 10000 }
+{
+    number_under(words, Name::Steps)
+}
+
+/// How many links accepted words of a bench ask for.
+pub fn bench_link_count(words: &[String]) -> u32
+    requires { spec.command_of (map string_bytes words.now) ≡ Command.Bench }
+    ensures value { result ≡ spec.link_count (map string_bytes words.now) }
+    ensures few { result ≤ 64 }
+{
+    number_under(words, Name::Links)
 }
 
 /// No word is bad exactly where the words are accepted: a command, and after it pairs of a name and a

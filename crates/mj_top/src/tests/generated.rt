@@ -29,3 +29,14 @@ fn generating_reads_no_file_and_may_fail_to_write(rt: HostRuntime) -> Result<(),
     }
     Ok(())
 }
+
+#[test]
+fn a_bench_is_the_same_each_time(rt: HostRuntime) -> Result<(), Fail> {
+    let alloc = rt.alloc();
+    let words = ["bench", "--links", "2", "--seed", "7", "--steps", "3"];
+    let once = tell(&rt, alloc, b"", &words)?;
+    let again = tell(&rt, alloc, b"x", &words)?;
+    assert_eq!(rt; once.code, again.code);
+    assert_eq!(rt; once.text.as_slice(), again.text.as_slice());
+    Ok(())
+}
