@@ -80,13 +80,15 @@ fn bits(n: u128) -> u32
     128 - n.leading_zeros().min(128)
 }
 
-/// `n / d` for a guess: by the leading 64 bits, where the quotient is so small that these tell it.
+/// `n / d`, rounded down, or one less: by the leading 64 bits where the quotient is below 2^28.
 fn quotient(n: u128, d: u128) -> u64 {
-    let long = bits(n).max(64);
+    let long = bits(n).max(bits(d)).max(64);
     if long > bits(d) + 28 {
         return low_half(n / d.max(1));
     }
-    low_half(n >> (long - 64)) / low_half(d >> (long - 64)).max(1)
+    // past its own error, so that the quotient is never too large
+    let by = low_half(d >> (long - 64)).saturating_add(1);
+    low_half(n >> (long - 64)) / by
 }
 
 impl Curve {
@@ -179,15 +181,14 @@ impl Curve {
         step.wrapping_add(1)
     }
 
-    /// Whether the parabola climbs, and its rise is its tangent's, `height / (2 g)`, but for an eighth
-    /// of a step.
+    /// Whether the parabola climbs, and is at its height within a sixteenth of a step before its
+    /// tangent at 0, `2 g k`.
     fn is_straight(&self) -> bool {
         let curved = bits(self.r.unsigned_abs()) + 2 * bits(self.height.unsigned_abs()) + 3;
         self.g > 0 && curved < 3 * bits(self.g.unsigned_abs())
     }
 
-    /// Nearly `sqrt (g^2 + r height)`: less `g` and divided by `r` it is the rise, but for rounding
-    /// up.
+    /// `sqrt (g^2 + r height)`, nearly: the parabola is at its height where `g + r k` is that.
     fn root(&self, size: u128, height: u128) -> i128 {
         // so many low bits are left out of the root that what is under it stays below 2^126
         let long = (bits(self.r.unsigned_abs()) + bits(height)).max(124) - 124;
