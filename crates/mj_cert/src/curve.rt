@@ -80,7 +80,7 @@ fn bits(n: u128) -> u32
     128 - n.leading_zeros().min(128)
 }
 
-/// `n / d`, rounded down, or one less: by the leading 64 bits where the quotient is below 2^28.
+/// `n / d`, rounded down, or one less: by the leading 64 bits where the quotient is below 2^27.
 fn quotient(n: u128, d: u128) -> u64 {
     let long = bits(n).max(bits(d)).max(64);
     if long > bits(d) + 28 {
