@@ -86,7 +86,7 @@ fn quotient(n: u128, d: u128) -> u64 {
     if long > bits(d) + 28 {
         return low_half(n / d.max(1));
     }
-    // past its own error, so that the quotient is never too large
+    // rounded up, so that the quotient is never too large
     let by = low_half(d >> (long - 64)).saturating_add(1);
     low_half(n >> (long - 64)) / by
 }
