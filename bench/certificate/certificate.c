@@ -43,21 +43,6 @@ static uint64_t root_of(u128 n) {
     return s;
 }
 
-typedef struct { u128 d; int shift; uint64_t inverse; } divisor;
-static inline divisor divisor_new(u128 d) {
-    int n = bits(d);
-    int high = n < 11 ? 11 : n > 74 ? 74 : n;
-    return (divisor){d, high - 11, (uint64_t)((~(u128)0 >> 1) / ((d << leading_zeros(d)) >> 64))};
-}
-static inline i128 nearest_by(i128 n, const divisor *by) {
-    u128 a = size(n);
-    uint64_t guess = (uint64_t)(((u128)(uint64_t)(a >> by->shift) * by->inverse + ((u128)1 << 73)) >> 74);
-    u128 product = guess * by->d, q = guess;
-    u128 apart = a > product ? a - product : product - a;
-    if (apart > (by->d - 1) >> 1) { q = a / by->d; u128 rest = a - q * by->d; if (rest > by->d - rest) q++; }
-    return n < 0 ? -(i128)q : (i128)q;
-}
-
 typedef struct { i128 g, r, height; } curve;
 static inline int has_risen(const curve *c, uint64_t k) {
     i128 last = c->r * k + c->g, h = last + c->g;
@@ -67,24 +52,31 @@ static inline int has_risen(const curve *c, uint64_t k) {
     u128 t = c->height;
     return (t >> 64) < high || ((t >> 64) == high && (uint64_t)t <= (uint64_t)low);
 }
-static inline uint64_t guess_of(const curve *c, const divisor *by) {
-    u128 a = size(c->g), t = size(c->height);
-    int wide = bits(size(c->r)) + bits(t), over = wide > 124 ? wide - 124 : 0;
+static inline uint64_t quotient(u128 n, u128 d) {
+    int wide = bits(n) < bits(d) ? bits(d) : bits(n);
+    if (wide < 64) wide = 64;
+    if (wide > bits(d) + 28) return n / d;
+    uint64_t by = d >> (wide - 64);
+    return (uint64_t)(n >> (wide - 64)) / (by + 1 ? by + 1 : by);
+}
+static inline uint64_t guess_of(const curve *c) {
+    u128 a = size(c->g), t = size(c->height), r = size(c->r);
+    if (c->g > 0 && bits(r) + 2 * bits(t) + 3 < 3 * bits(a)) return quotient(t >> 1, a) + 1;
+    int wide = bits(r) + bits(t), over = wide > 124 ? wide - 124 : 0;
     int shift = bits(a) > 62 ? bits(a) - 62 : 0, half = over / 2 + over % 2;
     if (half > shift) shift = half;
     if (shift > 63) shift = 63;
-    u128 s = a >> shift, under = (s * s + size(c->r) * (t >> (2 * shift))) & (~(u128)0 >> 2);
-    i128 step = ((i128)root_of(under) << shift) - c->g + (c->r >> 1);
-    return (uint64_t)size(nearest_by(step, by));
+    u128 s = a >> shift, under = (s * s + r * (t >> (2 * shift))) & (~(u128)0 >> 2);
+    return quotient(size(((i128)root_of(under) << shift) - c->g), r) + 1;
 }
 static uint64_t bisect(const curve *c, uint64_t low, uint64_t high) {
     while (high - low > 1) { uint64_t k = low + (high - low) / 2; if (has_risen(c, k)) high = k; else low = k; }
     return high;
 }
 static long misses;
-static inline int rise(const curve *c, const divisor *by, uint64_t top, uint64_t *p) {
+static inline int rise(const curve *c, uint64_t top, uint64_t *p) {
     if (!has_risen(c, top)) return 0;
-    uint64_t k = guess_of(c, by);
+    uint64_t k = guess_of(c);
     if (k > top) k = top;
     if (has_risen(c, k)) {
         if (k == 0 || !has_risen(c, k - 1)) *p = k;
@@ -102,7 +94,7 @@ static int certify(void) {
         s += r[i] * f[i] + ((i128)b[i] << 36);
         slope[i] = s;
         u128 a = size(s), e, R = r[i];
-        if (s >= 0 && R * (u128)f[i] <= a) { if (__builtin_mul_overflow((u128)f[i], 2 * a - R * (u128)f[i], &e)) return 1; }
+        if (s >= 0 && R * (u128)f[i] <= a) { if (f[i] == 0) e = 0; else if (__builtin_mul_overflow((u128)f[i], 2 * a - R * (u128)f[i], &e)) return 1; }
         else if (a == 0) e = 0;
         else if (__builtin_mul_overflow(a, (a + R - 1) / R, &e)) return 1;
         if (e > (u128)1 << 124) return 1;
@@ -112,11 +104,10 @@ static int certify(void) {
     }
     for (int i = 0; i < m; i++) {
         curve up = {slope[i], r[i], total - depth[i]}, down = {-slope[i], r[i], total - depth[i]};
-        divisor by = divisor_new(r[i]);
         uint64_t p;
-        if (!rise(&up, &by, 1ull << 50, &p)) return 2;
+        if (!rise(&up, 1ull << 50, &p)) return 2;
         hi[i] = f[i] + p;
-        lo[i] = rise(&down, &by, f[i], &p) ? f[i] - (int64_t)p : 0;
+        lo[i] = rise(&down, f[i], &p) ? f[i] - (int64_t)p : 0;
     }
     i128 c = 0, pull = 0;
     for (int k = 0; k < nv; k++) c += (i128)u[k] * u[k];

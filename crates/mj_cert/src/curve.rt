@@ -4,7 +4,7 @@ ghost use Rattle.std.specs.Prelude.{◌≡◌, pos, ◌+◌, ◌*◌, ◌/◌, �
 ghost use Rattle.mj_optimum.specs.Box as spec;
 
 use fx_whole::arithmetic::low_half;
-use fx_whole::{Divisor, isqrt, nearest_by, sum, wide_product};
+use fx_whole::{isqrt, sum, wide_product};
 
 /// The parabola `k (2 g + r k)` of a row of slope `g` and regularizer `r`, and a height.
 #[derive(Clone, Copy)]
@@ -80,10 +80,21 @@ fn bits(n: u128) -> u32
     128 - n.leading_zeros().min(128)
 }
 
+/// `n / d`, rounded down, or one less: by the leading 64 bits where the quotient is below 2^27.
+fn quotient(n: u128, d: u128) -> u64 {
+    let long = bits(n).max(bits(d)).max(64);
+    if long > bits(d) + 28 {
+        return low_half(n / d.max(1));
+    }
+    // rounded up, so that the quotient is never too large
+    let by = low_half(d >> (long - 64)).saturating_add(1);
+    low_half(n >> (long - 64)) / by
+}
+
 impl Curve {
     /// The least step at which the parabola is past its vertex and at least at its height, where that
-    /// is at most `top`. `by` is `r` as a divisor.
-    pub fn rise(&self, by: &Divisor, top: u64) -> Option<u64>
+    /// is at most `top`.
+    pub fn rise(&self, top: u64) -> Option<u64>
         requires { top ≤ 2 ^ 52 }
         ensures { SomeIff result
             (spec.rise self.now.g self.now.r self.now.height ≤ top)
@@ -92,7 +103,7 @@ impl Curve {
         if !self.has_risen(top) {
             return None;
         }
-        let guess = self.guess(by).min(top);
+        let guess = self.guess().min(top);
         if self.has_risen(guess) {
             Some(self.rise_from(guess))
         } else {
@@ -157,19 +168,34 @@ impl Curve {
         high
     }
 
-    /// Nearly always the rise, or one less: `(sqrt (g^2 + r height) - g) / r`, rounded up. What it
-    /// gives is tested, so nothing rests on it.
-    fn guess(&self, by: &Divisor) -> u64 {
+    /// Nearly always the rise, or one less. What it gives is tested, so nothing rests on it.
+    fn guess(&self) -> u64 {
         let size = self.g.unsigned_abs();
         let height = self.height.unsigned_abs();
+        let step = if self.is_straight() {
+            quotient(height >> 1, size)
+        } else {
+            let root = self.root(size, height).wrapping_sub(self.g);
+            quotient(root.unsigned_abs(), self.r.unsigned_abs())
+        };
+        step.wrapping_add(1)
+    }
+
+    /// Whether the parabola climbs, and is at its height within a sixteenth of a step before its
+    /// tangent at 0, `2 g k`.
+    fn is_straight(&self) -> bool {
+        let curved = bits(self.r.unsigned_abs()) + 2 * bits(self.height.unsigned_abs()) + 3;
+        self.g > 0 && curved < 3 * bits(self.g.unsigned_abs())
+    }
+
+    /// `sqrt (g^2 + r height)`, nearly: the parabola is at its height where `g + r k` is that.
+    fn root(&self, size: u128, height: u128) -> i128 {
         // so many low bits are left out of the root that what is under it stays below 2^126
         let long = (bits(self.r.unsigned_abs()) + bits(height)).max(124) - 124;
         let shift = (bits(size).max(62) - 62).max(long / 2 + long % 2).min(63);
         let short = size >> shift;
         let area = self.r.unsigned_abs().wrapping_mul(height >> (2 * shift));
         let under = short.wrapping_mul(short).wrapping_add(area) & (u128::MAX >> 2);
-        let root = isqrt(under.cast_signed()).wrapping_shl(shift);
-        let step = root.wrapping_sub(self.g).wrapping_add(self.r >> 1);
-        low_half(nearest_by(step, by).unsigned_abs())
+        isqrt(under.cast_signed()).wrapping_shl(shift)
     }
 }

@@ -19,7 +19,6 @@ use crate::exact::minus;
 use crate::room::distance;
 use fx_list::Array;
 use fx_num::{Fix, Number, Wide};
-use fx_whole::Divisor;
 use mj_types::{Dual, Forces, OutOfRange, Quantity};
 
 /// Between which forces the box is at a row.
@@ -66,7 +65,6 @@ fn no_end(place: usize) -> OutOfRange
 /// The end above the force `f`: as far as its parabola allows, or the bound.
 fn high_end(
     curve: &Curve,
-    by: &Divisor,
     f: &Fix<20>,
     high: Option<Fix<20>>,
     place: usize,
@@ -80,11 +78,11 @@ fn high_end(
         (f.now.mid +ℤ pos (spec.rise curve.now.g curve.now.r curve.now.height))) }
 {
     match high {
-        None => match curve.rise(by, 1 << 50) {
+        None => match curve.rise(1 << 50) {
             Some(p) => Ok(add_step(f, p)),
             None => Err(no_end(place)),
         },
-        Some(high) => match curve.rise(by, distance(f, &high)) {
+        Some(high) => match curve.rise(distance(f, &high)) {
             Some(p) => Ok(add_step(f, p)),
             None => Ok(high),
         },
@@ -94,7 +92,6 @@ fn high_end(
 /// The end below the force `f`, where the curve is seen downwards.
 fn low_end(
     curve: &Curve,
-    by: &Divisor,
     f: &Fix<20>,
     low: Option<Fix<20>>,
     place: usize,
@@ -108,11 +105,11 @@ fn low_end(
         (f.now.mid -ℤ pos (spec.rise curve.now.g curve.now.r curve.now.height))) }
 {
     match low {
-        None => match curve.rise(by, 1 << 50) {
+        None => match curve.rise(1 << 50) {
             Some(p) => Ok(subtract_step(f, p)),
             None => Err(no_end(place)),
         },
-        Some(low) => match curve.rise(by, distance(&low, f)) {
+        Some(low) => match curve.rise(distance(&low, f)) {
             Some(p) => Ok(subtract_step(f, p)),
             None => Ok(low),
         },
@@ -174,9 +171,8 @@ fn ends_within(
     ensures high { IfOk result (λ e. e.high.mid ≡ at_most (bound high)
         (f.now.mid +ℤ pos (spec.rise up.now.g up.now.r up.now.height))) }
 {
-    let by = Divisor::new(up.r);
-    let high = high_end(up, &by, f, high, place)?;
-    let low = low_end(&mirror(up), &by, f, low, place)?;
+    let high = high_end(up, f, high, place)?;
+    let low = low_end(&mirror(up), f, low, place)?;
     Ok(Ends { low, high })
 }
 

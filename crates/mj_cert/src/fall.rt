@@ -22,6 +22,9 @@ use mj_types::{Dual, Forces, OutOfRange, Quantity};
 fn limited_product(a: u128, b: u128) -> Option<u128>
     ensures { SomeIff result (a * b ≤ 2 ^ 124) (a * b) }
 {
+    if a == 0 {
+        return Some(0);
+    }
     match a.checked_mul(b) {
         Some(product) if product <= 1 << 124 => Some(product),
         _ => None,
