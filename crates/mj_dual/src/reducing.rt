@@ -59,13 +59,13 @@ pub(crate) fn is_idle(diag: &Wide<48>) -> bool
 /// Reduces a constraint's row by the factor of the mass matrix: `out` becomes `G = J L^-T D^-1/2`,
 /// and the answer is what the dual holds of the row beside it; none where the row is idle, which is
 /// where its diagonal entry `A_ii`, the sum of the squares of `G`, is below 2^-20 (MuJoCo
-/// documentation, Computation, constraint model). `roots` are the roots of the factor's pivots, as
-/// `pivot_roots` gives them; those that aren't given are taken. The regularizer is `A_ii (1 - d) /
-/// d` at the impedance `d`, and the right side is `J smooth` less the acceleration that the
-/// constraint asks for. Each number is rounded once. A number out of range is named by the row's
-/// number: Reduced as in half a solve; then, past 2^72 raw, Regularizer for `A_ii` and the
-/// regularizer; Reference where `J v` passes 2^54 raw, or as in `reference`; DualVector where `J
-/// smooth` or the right side passes 2^56 raw. An idle row has no number after `A_ii`.
+/// documentation, Computation, constraint model). The regularizer is `A_ii (1 - d) / d` at the
+/// impedance `d`, and the right side is `J smooth` less the acceleration that the constraint asks
+/// for. Each number is rounded once. A number out of range is named by the row's number: Reduced as
+/// in half a solve; then, past 2^72 raw, Regularizer for `A_ii` and the regularizer; Reference
+/// where `J v` passes 2^54 raw, or as in `reference`; DualVector where `J smooth` or the right side
+/// passes 2^56 raw. An idle row has no number after `A_ii`. `roots` are the roots of the first
+/// pivots; those of others are taken.
 pub fn reduce(
     model: &Model,
     state: &State,

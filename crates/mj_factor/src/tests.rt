@@ -62,7 +62,10 @@ fn solves_a_pendulum(rt: HostRuntime) {
 fn the_root_of_a_pivot_is_rounded_down(rt: HostRuntime) {
     assert_eq!(rt; pivot_root(&Fix::<40>::from_raw(1024)).mid, 131_072);
     // the root of 2^40 + 1 is less than 2^32 + 1
-    assert_eq!(rt; pivot_root(&Fix::<40>::from_raw(1_099_511_627_777)).mid, 4_294_967_296);
+    assert_eq!(rt;
+        pivot_root(&Fix::<40>::from_raw(1_099_511_627_777)).mid,
+        4_294_967_296
+    );
     assert_eq!(rt; pivot_root(&Fix::<40>::from_raw(1 << 60)).mid, 1 << 42);
 }
 

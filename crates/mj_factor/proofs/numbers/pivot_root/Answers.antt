@@ -1,4 +1,4 @@
-use Rattle.std.proofs.Common.{◌≡◌, ◌^◌, ◌<◌, ◌<ℤ◌, ◌*ℤ◌, ℤ, pos, unsigned_abs, to_z, of_z, rules, arith, ap}
+use Rattle.std.proofs.Common.{◌≡◌, ◌^◌, ◌<ℤ◌, ◌*ℤ◌, ℤ, pos, unsigned_abs, to_z, of_z, rules, arith, ap}
 use Rattle.std.proofs.lemmas.Int.{ints}
 use mir.Syntax.{w128}
 use Rattle.fx_whole.specs.Roots.{isqrt}

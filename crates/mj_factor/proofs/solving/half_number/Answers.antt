@@ -1,4 +1,4 @@
-use Rattle.std.proofs.Common.{ℤ, pos, ◌+◌, ◌^◌, ◌+ℤ◌, ◌*ℤ◌, ◌<ℤ◌, sym, ap, ap₂, ◌∙◌, subst}
+use Rattle.std.proofs.Common.{pos, ◌+◌, ◌^◌, ◌+ℤ◌, ◌*ℤ◌, ◌<ℤ◌, sym, ap, ap₂, ◌∙◌, subst}
 use Rattle.fx_whole.specs.Nearest.{nearest}
 use Rattle.fx_whole.proofs.FirstLaws.{pass_first}
 use Rattle.mj_types.specs.declared.range.Quantity.TheVariants as kind
