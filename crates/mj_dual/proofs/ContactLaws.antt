@@ -27,7 +27,7 @@ pub first_small : (m : Model) (c : Contact) → first_edge m c ≤ 1
 first_small m c = one_or_none (is_frictionless (first_geom m c) (second_geom m c))
 
 -- a lever's velocity that is out of range is a fault of the contact's first row
-pub contact-out : (m : Model) (y : Dynamics) (x : Placing) (c : Contact) (k : ℕ) (rows : Rows) (d : Dual) (number : ℕ) (e : OutOfRange) → CanTake m rows d
+pub contact-out : (m : Model) (y : Dynamics) (x : Placing) (c : Contact) (k : ℕ) (rows : Rows) (d : Dual) (number : ℕ) (e : OutOfRange) → CanTake m y.pivot rows d
     → number ≡ length rows.list.list + 1 → y.motion.dofs ≡ m.nv → Some e ≡ levers_fault m.nv number (lever_of m x c) → HasAdded m y (edges m x c k) (Some e) rows rows d d
 contact-out m y x c k rows d number e open_ at wide first =
     let part = λ (i : ℕ). edge_of m x c k (first_edge m c + i) ∷ [] in

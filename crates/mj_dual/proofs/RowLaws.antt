@@ -15,6 +15,7 @@ use Rattle.mj_types.specs.declared.rows.Row.{Row}
 use Rattle.mj_types.specs.declared.rows.Rows.{Rows}
 use Rattle.mj_types.specs.Duals.{bound}
 use Rattle.mj_types.specs.Parts.{number_at, plain}
+use Rattle.mj_factor.specs.Solves.{HasRoots}
 use Rattle.mj_rows.specs.Constraint.{Constraint, force, row_of, row_fault}
 use Rattle.mj_dual.specs.Actives.{active_entry}
 use Rattle.mj_dual.specs.Reductions.{Dynamics, reduced, diagonal, row_entry, reduction_fault}
@@ -141,14 +142,14 @@ fault-of y c row n number j r is whole at passed first =
     ∙ ap (reduction_fault (n + 1) y c.soft c.r) whole ∙ sym (fault-reduced (n + 1) y c passed) ∙ sym (faults-one n y c)
 
 -- it is refused
-pub one-refused : (m : Model) (y : Dynamics) (c : Constraint) (row : Row) (rows : Rows) (d : Dual) (number : ℕ) (j : ℕ → ℤ) (e : OutOfRange) → CanTake m rows d
+pub one-refused : (m : Model) (y : Dynamics) (c : Constraint) (row : Row) (rows : Rows) (d : Dual) (number : ℕ) (j : ℕ → ℤ) (e : OutOfRange) → CanTake m y.pivot rows d
     → row ≡ row_of false c → j ≡ c.jacobian → number ≡ length rows.list.list + 1 → row_fault y.motion.dofs (length rows.list.list + 1) c ≡ None
     → Some e ≡ reduction_fault number y row.soft row.r.mid j → HasAdded m y (c ∷ []) (Some e) rows rows d d
 one-refused m y c row rows d number j e open_ is whole at passed first =
     added-refused m y rows d (c ∷ []) e open_ (fault-of y c row (length rows.list.list) number j (Some e) is whole at passed first)
 
 -- it is refused before that
-pub one-out : (m : Model) (y : Dynamics) (c : Constraint) (rows : Rows) (d : Dual) (number : ℕ) (e : OutOfRange) → CanTake m rows d → number ≡ length rows.list.list + 1
+pub one-out : (m : Model) (y : Dynamics) (c : Constraint) (rows : Rows) (d : Dual) (number : ℕ) (e : OutOfRange) → CanTake m y.pivot rows d → number ≡ length rows.list.list + 1
     → Some e ≡ row_fault y.motion.dofs number c → HasAdded m y (c ∷ []) (Some e) rows rows d d
 one-out m y c rows d number e open_ at first =
     added-refused m y rows d (c ∷ []) e open_
@@ -170,7 +171,7 @@ held-few None g old new h = omega (arith, ap (λ x. x.m) h)
 held-few (Some row) g old new h = omega (arith, h.count)
 
 pub one-taken : (m : Model) (y : Dynamics) (c : Constraint) (row : Row) (rows rows' : Rows) (old new : Dual) (number : ℕ) (idle : Bool) (entry : Option DualRow)
-    (jacobian : List (Number (Unit {0}) 32)) (numbers : List (Number (Unit {0}) 24)) → CanTake m rows old
+    (jacobian : List (Number (Unit {0}) 32)) (numbers : List (Number (Unit {0}) 24)) → CanTake m y.pivot rows old
     → row ≡ row_of false c → number_at jacobian ≡ c.jacobian → length jacobian ≡ m.nv → number ≡ length rows.list.list + 1
     → row_fault y.motion.dofs (length rows.list.list + 1) c ≡ None → None ≡ reduction_fault number y row.soft row.r.mid (number_at jacobian)
     → entry ≡ row_entry number y row (number_at jacobian) → ((k : ℕ) → k < m.nv → number_at numbers k ≡ reduced y (number_at jacobian) k) → idle ≡ is_none entry
@@ -196,6 +197,7 @@ one-taken m y c row rows rows' old new number idle entry jacobian numbers open_ 
       low = room.low ∙ open_.dual_room.low;
       high = room.high ∙ open_.dual_room.high;
     };
+    roots = subst (HasRoots y.pivot) (sym same_row) open_.roots;
     whole = (let l : length rows'.jac.list ≡ length rows.jac.list + length jacobian = ap (λ x. length x.list) jac ∙ length-append rows.jac.list jacobian in
         let product : length rows'.list.list * m.nv ≡ (length rows.list.list + 1) * m.nv = ap (λ (k : ℕ). k * m.nv) one_more in
         omega (arith, l, width, product, open_.whole));

@@ -34,7 +34,7 @@ faults-whole y cs =
 
 module _ (m : Model) (y : Dynamics) where
   -- ---- parts
-  pub added-none : (rows : Rows) (d : Dual) → CanTake m rows d → HasAdded m y [] None rows rows d d
+  pub added-none : (rows : Rows) (d : Dual) → CanTake m y.pivot rows d → HasAdded m y [] None rows rows d d
   added-none rows d open_ = record {
     open_ = open_;
     first = refl;
@@ -43,7 +43,7 @@ module _ (m : Model) (y : Dynamics) where
   }
 
   -- one that is refused before anything is taken
-  pub added-refused : (rows : Rows) (d : Dual) (part : List Constraint) (e : OutOfRange) → CanTake m rows d → Some e ≡ faults_from (length rows.list.list) y part
+  pub added-refused : (rows : Rows) (d : Dual) (part : List Constraint) (e : OutOfRange) → CanTake m y.pivot rows d → Some e ≡ faults_from (length rows.list.list) y part
       → HasAdded m y part (Some e) rows rows d d
   added-refused rows d part e open_ first = record { open_ = open_; first = first; count = λ q. cc; taken = λ q. cc }
 
@@ -73,7 +73,7 @@ module _ (m : Model) (y : Dynamics) where
   }
 
   -- ---- a loop over parts f 0, f 1, ..
-  pub turn-start : (a : Rows) (d : Dual) (f : ℕ → List Constraint) → CanTake m a d → HasAdded m y (joined 0 f) None a a d d
+  pub turn-start : (a : Rows) (d : Dual) (f : ℕ → List Constraint) → CanTake m y.pivot a d → HasAdded m y (joined 0 f) None a a d d
   turn-start a d f open_ = subst (λ x. HasAdded m y x None a a d d) (sym (joined-none f)) (added-none a d open_)
 
   pub turn-more : (a b c : Rows) (d e f : Dual) (i : ℕ) (part : ℕ → List Constraint) (r : Option OutOfRange)

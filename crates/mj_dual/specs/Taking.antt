@@ -1,5 +1,5 @@
 -- While rows are taken one after another into the list and the dual.
-use Rattle.std.specs.Prelude.{◌≡◌, ℕ, ◌+◌, ◌*◌, ◌^◌, ◌<◌, ◌≤◌, unsigned_abs, List, length, ◌++◌, Option, Some, None}
+use Rattle.std.specs.Prelude.{◌≡◌, ℕ, ◌+◌, ◌*◌, ◌^◌, ◌<◌, ◌≤◌, ℤ, unsigned_abs, List, length, ◌++◌, Option, Some, None}
 use Rattle.fx_whole.specs.First.{first_to}
 use Rattle.fx_num.specs.declared.number.Number.{Number}
 use Rattle.mj_types.specs.declared.carriers.Factor.{Factor}
@@ -13,6 +13,7 @@ use Rattle.mj_types.specs.Parts.{number_at}
 use Rattle.mj_types.specs.Problems.{HasRoom}
 use Rattle.mj_types.specs.RowRooms.{RowsRoom}
 use Rattle.mj_types.specs.States.{Fits}
+use Rattle.mj_factor.specs.Solves.{HasRoots}
 use Rattle.mj_factor.specs.Stored.{IsFactor}
 use Rattle.mj_rows.specs.Constraint.{Constraint}
 use Rattle.mj_dual.specs.Reductions.{Dynamics}
@@ -26,10 +27,11 @@ pub record HasDynamics (m : Model) (s : State) (f : Factor) (smooth : List (Numb
   pub width : length smooth ≡ m.nv
   pub small : (k : ℕ) → k < m.nv → unsigned_abs (number_at smooth k) ≤ 2 ^ 56
 
--- ---- where rows can be taken: there is room, and no more rows are in the dual than in the list
-pub record CanTake (m : Model) (rows : Rows) (d : Dual) : Type 0 where
+-- ---- where rows can be taken: there is room, the roots of the factor's pivots are held, and no more rows are in the dual than in the list
+pub record CanTake (m : Model) (pivot : ℕ → ℤ) (rows : Rows) (d : Dual) : Type 0 where
   pub list_room : RowsRoom m rows
   pub dual_room : HasRoom m.njmax m.nv d
+  pub roots : HasRoots pivot rows.row
   pub whole : length rows.jac.list ≡ length rows.list.list * m.nv
   pub few : d.m ≤ length rows.list.list
 
@@ -45,7 +47,7 @@ faults_from start y cs = first_to (length cs) (λ i. constraint_fault (start + i
 
 -- ---- a call that takes these constraints after others, or answers their first fault
 pub record HasAdded (m : Model) (y : Dynamics) (part : List Constraint) (fault : Option OutOfRange) (rows rows' : Rows) (d d' : Dual) : Type 0 where
-  pub open_ : CanTake m rows' d'
+  pub open_ : CanTake m y.pivot rows' d'
   pub first : fault ≡ faults_from (length rows.list.list) y part
   pub count : fault ≡ None → length rows'.list.list ≡ length rows.list.list + length part
   pub taken : fault ≡ None → (cs : List Constraint) → HasTaken m y cs rows d → HasTaken m y (cs ++ part) rows' d'

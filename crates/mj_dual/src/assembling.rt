@@ -20,6 +20,7 @@ use crate::contacts::take_contacts;
 use crate::joints::{take_equalities, take_frictions, take_joint_limits};
 use crate::tendons::take_tendon_limits;
 use fx_num::Fix;
+use mj_factor::pivot_roots;
 use mj_rows::{Slope, judge_count, no_slopes};
 use mj_types::{Applied, Contacts, Dual, Factor, Frames, Model, OutOfRange, Rows, State};
 
@@ -37,7 +38,7 @@ fn take_joints(
     requires dynamics { HasDynamics model.now state.now factor.now smooth.now }
     requires jacobian { length jacobian.old ≡ model.now.nv }
     requires reduced { length reduced.old ≡ model.now.nv }
-    requires open_ { CanTake model.now rows.old out.old }
+    requires open_ { CanTake model.now (number_at factor.now.d) rows.old out.old }
     requires spare { length rows.old.list.list
         + length (all.all_equalities model.now state.now ++ all.all_frictions model.now
         ++ all.all_joint_limits model.now state.now)
@@ -76,7 +77,7 @@ fn take_all(
     requires slopes { length slopes.old ≡ 64 }
     requires jacobian { length jacobian.old ≡ model.now.nv }
     requires reduced { length reduced.old ≡ model.now.nv }
-    requires open_ { CanTake model.now rows.old out.old }
+    requires open_ { CanTake model.now (number_at factor.now.d) rows.old out.old }
     requires spare { length rows.old.list.list
         + length (all.constraints_of model.now state.now frames.now applied.now contacts.now)
         ≤ model.now.njmax }
@@ -155,6 +156,7 @@ pub fn assemble(
 {
     clear(rows, out);
     judge_count(model, state, applied, contacts)?;
+    pivot_roots(model, factor, &mut rows.row);
     let mut jacobian = [Fix::from_raw(0); 64];
     let mut reduced = [Fix::from_raw(0); 64];
     take_all(

@@ -1,6 +1,7 @@
 // The rows of contacts: of the edges of their friction pyramids.
 ghost use Rattle.std.specs.Prelude.{◌≡◌, length, ◌+◌, ◌<◌, ◌≤◌, ◌∷◌, []};
 ghost use Rattle.fx_whole.specs.First.{refusal_of};
+ghost use Rattle.mj_types.specs.Parts.{number_at};
 ghost use Rattle.mj_types.specs.Placed.{AreFrames, placing_of};
 ghost use Rattle.mj_types.specs.Rooms.{ContactsRoom};
 ghost use Rattle.mj_contact.specs.Sizes.{AreUsable, IsUsable};
@@ -38,7 +39,7 @@ fn take_edge(
         slopes.now }
     requires jacobian { length jacobian.old ≡ model.now.nv }
     requires reduced { length reduced.old ≡ model.now.nv }
-    requires open_ { CanTake model.now rows.old out.old }
+    requires open_ { CanTake model.now (number_at factor.now.d) rows.old out.old }
     requires spare { length rows.old.list.list
         + length (spec.edge_of model.now (placing_of frames.now) contact.now k number ∷ [])
         ≤ model.now.njmax }
@@ -84,7 +85,7 @@ fn take_edges(
         slopes.now }
     requires jacobian { length jacobian.old ≡ model.now.nv }
     requires reduced { length reduced.old ≡ model.now.nv }
-    requires open_ { CanTake model.now rows.old out.old }
+    requires open_ { CanTake model.now (number_at factor.now.d) rows.old out.old }
     requires spare { length rows.old.list.list
         + length (spec.edges model.now (placing_of frames.now) contact.now k)
         ≤ model.now.njmax }
@@ -135,7 +136,7 @@ fn take_contact(
     requires slopes { length slopes.old ≡ 64 }
     requires jacobian { length jacobian.old ≡ model.now.nv }
     requires reduced { length reduced.old ≡ model.now.nv }
-    requires open_ { CanTake model.now rows.old out.old }
+    requires open_ { CanTake model.now (number_at factor.now.d) rows.old out.old }
     requires spare { length rows.old.list.list
         + length (spec.edges model.now (placing_of frames.now) contact.now k)
         ≤ model.now.njmax }
@@ -171,7 +172,7 @@ pub(crate) fn take_contacts(
     requires slopes { length slopes.old ≡ 64 }
     requires jacobian { length jacobian.old ≡ model.now.nv }
     requires reduced { length reduced.old ≡ model.now.nv }
-    requires open_ { CanTake model.now rows.old out.old }
+    requires open_ { CanTake model.now (number_at factor.now.d) rows.old out.old }
     requires spare { length rows.old.list.list
         + length (all_edges model.now (placing_of frames.now) contacts.now.list.list)
         ≤ model.now.njmax }

@@ -1,6 +1,7 @@
 // The rows of equalities, of joint friction and of joint limits.
 ghost use Rattle.std.specs.Prelude.{◌≡◌, length, ◌+◌, ◌<◌, ◌≤◌, ◌∷◌, []};
 ghost use Rattle.fx_whole.specs.First.{refusal_of};
+ghost use Rattle.mj_types.specs.Parts.{number_at};
 ghost use Rattle.mj_rows.specs.Constraints.{all_equalities, all_frictions, all_joint_limits};
 ghost use Rattle.mj_rows.specs.Joints.{equality_of, frictions};
 ghost use Rattle.mj_rows.specs.Limits.{low_limits, high_limits, joint_limits};
@@ -28,7 +29,7 @@ fn take_equality(
     requires equality { e < length model.now.equalities }
     requires jacobian { length jacobian.old ≡ model.now.nv }
     requires reduced { length reduced.old ≡ model.now.nv }
-    requires open_ { CanTake model.now rows.old out.old }
+    requires open_ { CanTake model.now (number_at factor.now.d) rows.old out.old }
     requires spare { length rows.old.list.list + length (equality_of model.now state.now e ∷ [])
         ≤ model.now.njmax }
     ensures { HasAdded model.now (dynamics model.now state.now factor.now smooth.now)
@@ -56,7 +57,7 @@ pub(crate) fn take_equalities(
     requires dynamics { HasDynamics model.now state.now factor.now smooth.now }
     requires jacobian { length jacobian.old ≡ model.now.nv }
     requires reduced { length reduced.old ≡ model.now.nv }
-    requires open_ { CanTake model.now rows.old out.old }
+    requires open_ { CanTake model.now (number_at factor.now.d) rows.old out.old }
     requires spare { length rows.old.list.list + length (all_equalities model.now state.now)
         ≤ model.now.njmax }
     ensures { HasAdded model.now (dynamics model.now state.now factor.now smooth.now)
@@ -87,7 +88,7 @@ fn take_friction(
     requires joint { j < length model.now.joints }
     requires jacobian { length jacobian.old ≡ model.now.nv }
     requires reduced { length reduced.old ≡ model.now.nv }
-    requires open_ { CanTake model.now rows.old out.old }
+    requires open_ { CanTake model.now (number_at factor.now.d) rows.old out.old }
     requires spare { length rows.old.list.list + length (frictions model.now j)
         ≤ model.now.njmax }
     ensures { HasAdded model.now (dynamics model.now state.now factor.now smooth.now)
@@ -118,7 +119,7 @@ pub(crate) fn take_frictions(
     requires dynamics { HasDynamics model.now state.now factor.now smooth.now }
     requires jacobian { length jacobian.old ≡ model.now.nv }
     requires reduced { length reduced.old ≡ model.now.nv }
-    requires open_ { CanTake model.now rows.old out.old }
+    requires open_ { CanTake model.now (number_at factor.now.d) rows.old out.old }
     requires spare { length rows.old.list.list + length (all_frictions model.now)
         ≤ model.now.njmax }
     ensures { HasAdded model.now (dynamics model.now state.now factor.now smooth.now)
@@ -149,7 +150,7 @@ fn take_low(
     requires joint { j < length model.now.joints }
     requires jacobian { length jacobian.old ≡ model.now.nv }
     requires reduced { length reduced.old ≡ model.now.nv }
-    requires open_ { CanTake model.now rows.old out.old }
+    requires open_ { CanTake model.now (number_at factor.now.d) rows.old out.old }
     requires spare { length rows.old.list.list + length (low_limits model.now state.now j)
         ≤ model.now.njmax }
     ensures { HasAdded model.now (dynamics model.now state.now factor.now smooth.now)
@@ -182,7 +183,7 @@ fn take_high(
     requires joint { j < length model.now.joints }
     requires jacobian { length jacobian.old ≡ model.now.nv }
     requires reduced { length reduced.old ≡ model.now.nv }
-    requires open_ { CanTake model.now rows.old out.old }
+    requires open_ { CanTake model.now (number_at factor.now.d) rows.old out.old }
     requires spare { length rows.old.list.list + length (high_limits model.now state.now j)
         ≤ model.now.njmax }
     ensures { HasAdded model.now (dynamics model.now state.now factor.now smooth.now)
@@ -215,7 +216,7 @@ fn take_limits(
     requires joint { j < length model.now.joints }
     requires jacobian { length jacobian.old ≡ model.now.nv }
     requires reduced { length reduced.old ≡ model.now.nv }
-    requires open_ { CanTake model.now rows.old out.old }
+    requires open_ { CanTake model.now (number_at factor.now.d) rows.old out.old }
     requires spare { length rows.old.list.list + length (joint_limits model.now state.now j)
         ≤ model.now.njmax }
     ensures { HasAdded model.now (dynamics model.now state.now factor.now smooth.now)
@@ -245,7 +246,7 @@ pub(crate) fn take_joint_limits(
     requires dynamics { HasDynamics model.now state.now factor.now smooth.now }
     requires jacobian { length jacobian.old ≡ model.now.nv }
     requires reduced { length reduced.old ≡ model.now.nv }
-    requires open_ { CanTake model.now rows.old out.old }
+    requires open_ { CanTake model.now (number_at factor.now.d) rows.old out.old }
     requires spare { length rows.old.list.list + length (all_joint_limits model.now state.now)
         ≤ model.now.njmax }
     ensures { HasAdded model.now (dynamics model.now state.now factor.now smooth.now)

@@ -6,7 +6,7 @@ ghost use Rattle.mj_types.specs.Duals.{MayBeRow};
 ghost use Rattle.mj_types.specs.Forests.{above_in};
 ghost use Rattle.mj_types.specs.Parts.{number_at};
 ghost use Rattle.mj_types.specs.States.{Fits};
-ghost use Rattle.mj_factor.specs.Solves.{half, half_fault};
+ghost use Rattle.mj_factor.specs.Solves.{half, half_fault, HasRoots};
 ghost use Rattle.mj_factor.specs.Stored.{IsFactor, entry};
 ghost use Rattle.mj_rows.specs.Working.{IsReady};
 ghost use Rattle.mj_dual.specs.Actives.{of_row};
@@ -15,18 +15,20 @@ ghost use Rattle.mj_dual.specs.Reductions as spec;
 use crate::active::active;
 use crate::numbers::{square_sum, within_regular};
 use fx_num::{Fix, Wide};
-use mj_factor::half_solve;
+use mj_factor::half_solve_by;
 use mj_types::{DualRow, Factor, Model, OutOfRange, Quantity, Row, State};
 
 // Half a solve of a row, whose faults are named by the row's number.
 fn half(
     model: &Model,
     factor: &Factor,
+    roots: &[Fix<32>],
     number: usize,
     jacobian: &[Fix<32>],
     out: &mut [Fix<24>],
 ) -> Result<(), OutOfRange>
     requires factor { IsFactor model.now factor.now }
+    requires roots { HasRoots (number_at factor.now.d) roots.now }
     requires jacobian { length jacobian.now ≡ model.now.nv }
     requires out { length out.old ≡ model.now.nv }
     ensures value { OnOk result ((k : ℕ) → k < model.now.nv → number_at out.new k
@@ -38,7 +40,7 @@ fn half(
         (half_fault model.now.nv (entry (above_in model.now) factor.now.l)
         (number_at factor.now.d) (number_at jacobian.now)) }
 {
-    match half_solve(model, factor, jacobian, out) {
+    match half_solve_by(model, factor, roots, jacobian, out) {
         Ok(()) => Ok(()),
         Err(_) => Err(OutOfRange {
             kind: Quantity::Reduced,
@@ -62,11 +64,13 @@ pub(crate) fn is_idle(diag: &Wide<48>) -> bool
 /// for. Each number is rounded once. A number out of range is named by the row's number: Reduced as
 /// in half a solve; then, past 2^72 raw, Regularizer for `A_ii` and the regularizer; Reference
 /// where `J v` passes 2^54 raw, or as in `reference`; DualVector where `J smooth` or the right side
-/// passes 2^56 raw. An idle row has no number after `A_ii`.
+/// passes 2^56 raw. An idle row has no number after `A_ii`. `roots` are the roots of the first
+/// pivots; those of others are taken.
 pub fn reduce(
     model: &Model,
     state: &State,
     factor: &Factor,
+    roots: &[Fix<32>],
     smooth: &[Fix<32>],
     number: usize,
     row: &Row,
@@ -75,6 +79,7 @@ pub fn reduce(
 ) -> Result<Option<DualRow>, OutOfRange>
     requires fits { Fits model.now state.now }
     requires factor { IsFactor model.now factor.now }
+    requires roots { HasRoots (number_at factor.now.d) roots.now }
     requires smooth { length smooth.now ≡ model.now.nv }
     requires accelerations { (k : ℕ) → k < model.now.nv
         → unsigned_abs (number_at smooth.now k) ≤ 2 ^ 56 }
@@ -93,7 +98,7 @@ pub fn reduce(
         (spec.dynamics model.now state.now factor.now smooth.now) row.now.soft row.now.r.mid
         (number_at jacobian.now) }
 {
-    half(model, factor, number, jacobian, out)?;
+    half(model, factor, roots, number, jacobian, out)?;
     let diag = within_regular(&square_sum(out), number)?;
     if is_idle(&diag) {
         return Ok(None);

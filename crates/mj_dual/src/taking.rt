@@ -63,7 +63,7 @@ pub(crate) fn take_row(
     requires jacobian { length jacobian.now ≡ model.now.nv }
     requires small { (d : ℕ) → unsigned_abs (number_at jacobian.now d) ≤ 2 ^ 48 }
     requires reduced { length reduced.old ≡ model.now.nv }
-    requires open_ { spec.CanTake model.now rows.old out.old }
+    requires open_ { spec.CanTake model.now (number_at factor.now.d) rows.old out.old }
     requires spare { length rows.old.list.list < model.now.njmax }
     ensures { (c : Constraint) → row.now ≡ row_of false c → number_at jacobian.now ≡ c.jacobian
         → row_fault model.now.nv (length rows.old.list.list + 1) c ≡ None
@@ -71,7 +71,10 @@ pub(crate) fn take_row(
         (refusal_of result) rows.old rows.new out.old out.new }
 {
     let number = rows.list.len() + 1;
-    let entry = reduce(model, state, factor, smooth, number, row, jacobian, reduced)?;
+    let roots = rows.row.as_slice();
+    let entry = reduce(
+        model, state, factor, roots, smooth, number, row, jacobian, reduced,
+    )?;
     list_row(row, entry.is_none(), jacobian, rows);
     hold(&entry, reduced, out);
     Ok(())

@@ -31,7 +31,7 @@ fn take_low(
     requires tendon { t < length model.now.tendons }
     requires jacobian { length jacobian.old ≡ model.now.nv }
     requires reduced { length reduced.old ≡ model.now.nv }
-    requires open_ { CanTake model.now rows.old out.old }
+    requires open_ { CanTake model.now (number_at factor.now.d) rows.old out.old }
     requires spare { length rows.old.list.list
         + length (tendon_low_limits model.now (number_at applied.now.length) t)
         ≤ model.now.njmax }
@@ -67,7 +67,7 @@ fn take_high(
     requires tendon { t < length model.now.tendons }
     requires jacobian { length jacobian.old ≡ model.now.nv }
     requires reduced { length reduced.old ≡ model.now.nv }
-    requires open_ { CanTake model.now rows.old out.old }
+    requires open_ { CanTake model.now (number_at factor.now.d) rows.old out.old }
     requires spare { length rows.old.list.list
         + length (tendon_high_limits model.now (number_at applied.now.length) t)
         ≤ model.now.njmax }
@@ -103,7 +103,7 @@ fn take_limits(
     requires tendon { t < length model.now.tendons }
     requires jacobian { length jacobian.old ≡ model.now.nv }
     requires reduced { length reduced.old ≡ model.now.nv }
-    requires open_ { CanTake model.now rows.old out.old }
+    requires open_ { CanTake model.now (number_at factor.now.d) rows.old out.old }
     requires spare { length rows.old.list.list
         + length (tendon_limits model.now (number_at applied.now.length) t)
         ≤ model.now.njmax }
@@ -136,7 +136,7 @@ pub(crate) fn take_tendon_limits(
     requires applied { AreApplied model.now applied.now }
     requires jacobian { length jacobian.old ≡ model.now.nv }
     requires reduced { length reduced.old ≡ model.now.nv }
-    requires open_ { CanTake model.now rows.old out.old }
+    requires open_ { CanTake model.now (number_at factor.now.d) rows.old out.old }
     requires spare { length rows.old.list.list
         + length (all_tendon_limits model.now (number_at applied.now.length))
         ≤ model.now.njmax }

@@ -7,7 +7,7 @@
 -- RowLaws, of sums for a row: where they begin, that they fit
 -- MakingLaws, of `HasRows` (specs/Stored): rows_begin, rows_more, and what all rows are
 -- RangeLaws: what is in its range where there is no fault
--- NumberLaws, of lists of plain numbers
+-- NumberLaws, of lists of plain numbers and of a pivot's root
 -- SolveLaws, of `back` and `forth` (specs/Solves): back_is *, forth_is *, sums over the rows from p on
 -- ScatterLaws, of a number that is added to the sums of the dofs above its dof;  GatherLaws, of a sum over the dofs above a dof
 -- BackLaws, of `IsBackTo`: back_begins, back_here, back_more

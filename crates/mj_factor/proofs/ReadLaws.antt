@@ -1,16 +1,13 @@
 -- A factor, a solve and a residual read a matrix, its factor and a right side below n alone: where two agree there, so do these.
-use Rattle.std.proofs.Common.{◌≡◌, ℕ, zero, suc, ◌+◌, ◌-◌, ◌^◌, ◌<◌, ◌≤◌, nat_lt, ℤ, pos, ◌-ℤ◌, ◌*ℤ◌, Option, refl, sym, ap, ap₂, ◌∙◌, arith, unsigned_abs, max, rules, inl, inr}
+use Rattle.std.proofs.Common.{◌≡◌, ℕ, zero, suc, ◌+◌, ◌-◌, ◌^◌, ◌<◌, ◌≤◌, ℤ, pos, ◌-ℤ◌, ◌*ℤ◌, refl, sym, ap, ap₂, ◌∙◌, arith, unsigned_abs, max, rules, inl, inr}
 use Rattle.std.proofs.lemmas.Bool.{cases_lt}
-use Rattle.fx_whole.specs.First.{or_first, first_to}
+use Rattle.fx_whole.specs.First.{or_first}
 use Rattle.fx_whole.specs.Nearest.{nearest}
-use Rattle.fx_whole.specs.Tables.{sum_after}
-use Rattle.fx_whole.specs.Sums.{sum_to}
 use Rattle.fx_whole.proofs.FirstLaws.{first_ext}
 use Rattle.fx_whole.proofs.SumLaws.{sum_to-ext}
 use Rattle.fx_whole.proofs.TableLaws.{sum_after-ext}
-use Rattle.mj_types.specs.declared.range.OutOfRange.{OutOfRange}
-use Rattle.mj_factor.specs.Factors.{lower_of, work_entry, work, lower, pivot, pivot_fault, entry_fault, row_fault, factor_fault}
-use Rattle.mj_factor.specs.Solves.{back_entry, back, forth_entry, forth, over_pivots, solution, accel_fault, forth_fault, solve_fault}
+use Rattle.mj_factor.specs.Factors.{lower_of, work, lower, pivot, pivot_fault, entry_fault, row_fault, factor_fault}
+use Rattle.mj_factor.specs.Solves.{back, over_pivots, solution, accel_fault, forth_fault, solve_fault}
 use Rattle.mj_factor.specs.Residuals.{greatest_to, residual_at}
 use Rattle.mj_factor.proofs.FactorLaws.{work_is}
 use Rattle.mj_factor.proofs.SolveLaws.{back_is, forth_is}

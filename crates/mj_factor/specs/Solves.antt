@@ -1,13 +1,15 @@
 -- Solves by a factor L^T D L: a solve of M a = s, and half a solve, by L^T and the roots of D. Each sum is exact and is rounded once.
 -- Featherstone, Rigid Body Dynamics Algorithms, chapter 6; scales, rounding and ranges are this project's own.
-use Rattle.std.specs.Prelude.{ℕ, ◌+◌, ◌^◌, ℤ, pos, ◌-ℤ◌, ◌*ℤ◌, Option}
+use Rattle.std.specs.Prelude.{◌≡◌, ℕ, ◌+◌, ◌^◌, ◌<◌, ℤ, pos, ◌-ℤ◌, ◌*ℤ◌, List, length, Option}
 use Rattle.fx_whole.specs.First.{or_first, first_to}
 use Rattle.fx_whole.specs.Nearest.{nearest}
 use Rattle.fx_whole.specs.Roots.{isqrt}
 use Rattle.fx_whole.specs.Sums.{sum_to}
 use Rattle.fx_whole.specs.Tables.{down, value, sum_after}
+use Rattle.fx_num.specs.declared.number.Number.{Number}
 use Rattle.mj_types.specs.declared.range.OutOfRange.{OutOfRange}
 use Rattle.mj_types.specs.declared.range.Quantity.TheVariants as kind
+use Rattle.mj_types.specs.Parts.{number_at}
 use Rattle.mj_types.specs.Ranges.{limited, first_down}
 
 -- ---- L^T y = x: y_i = x_i less the sum of L_ki y_k over the later k
@@ -43,8 +45,16 @@ abbrev pub solve_fault : ℕ → (ℕ → ℕ → ℤ) → (ℕ → ℤ) → (�
 solve_fault n l d s = or_first (first_down n (λ i. accel_fault i (back n l s i))) (first_to n (forth_fault n l d s))
 
 -- ---- half a solve: G = y / sqrt D
+-- the root of a pivot, rounded down
+abbrev pub pivot_root : ℤ → ℤ
+pivot_root d = isqrt (d *ℤ pos (2 ^ 24))
+
+-- a list of the roots of the pivots d, of the first of them
+abbrev pub HasRoots : (ℕ → ℤ) → List (Number (Unit {0}) 32) → Type 0
+HasRoots d roots = (k : ℕ) → k < length roots → number_at roots k ≡ pivot_root (d k)
+
 abbrev pub reduced : ℤ → ℤ → ℤ
-reduced y d = nearest (y *ℤ pos (2 ^ 24)) (isqrt (d *ℤ pos (2 ^ 24)))
+reduced y d = nearest (y *ℤ pos (2 ^ 24)) (pivot_root d)
 
 abbrev pub half : ℕ → (ℕ → ℕ → ℤ) → (ℕ → ℤ) → (ℕ → ℤ) → ℕ → ℤ
 half n l d x k = reduced (back n l x k) (d k)

@@ -1,5 +1,5 @@
 -- What a mass matrix and a factor hold, as functions of two dofs.
-use Rattle.std.specs.Prelude.{◌≡◌, ℕ, ◌+◌, ◌*◌, ◌^◌, ◌<◌, ◌≤◌, nat_le, Bool, true, false, ℤ, pos, ◌-ℤ◌, ◌*ℤ◌, ◌≤ℤ◌, unsigned_abs, List, length, slice_index_or}
+use Rattle.std.specs.Prelude.{◌≡◌, ℕ, ◌+◌, ◌^◌, ◌<◌, ◌≤◌, nat_le, Bool, true, ℤ, pos, ◌-ℤ◌, ◌*ℤ◌, ◌≤ℤ◌, unsigned_abs, List}
 use Rattle.fx_whole.specs.Counting.{count_to}
 use Rattle.fx_whole.specs.Nearest.{nearest}
 use Rattle.fx_whole.specs.Sums.{sum_to, when}

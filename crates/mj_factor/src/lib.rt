@@ -13,4 +13,4 @@ mod tests;
 
 pub use factoring::factor;
 pub use residuals::residual;
-pub use solving::{half_solve, solve};
+pub use solving::{half_solve, half_solve_by, pivot_roots, solve};

@@ -1,16 +1,16 @@
 // Exact sums of products, one rounding, and ranges.
-ghost use Rattle.std.specs.Prelude.{◌≡◌, ℕ, pos, length, ◌+◌, ◌*◌, ◌^◌, ◌<◌, ◌≤◌, ◌+ℤ◌, ◌*ℤ◌, ◌≤ℤ◌, unsigned_abs, IfOk};
+ghost use Rattle.std.specs.Prelude.{◌≡◌, ℕ, pos, length, ◌+◌, ◌*◌, ◌^◌, ◌<◌, ◌≤◌, ◌+ℤ◌, ◌*ℤ◌, ◌≤ℤ◌, ◌<ℤ◌, unsigned_abs, IfOk};
 ghost use Rattle.fx_whole.specs.First.{refusal_of};
 ghost use Rattle.fx_whole.specs.Nearest.{nearest as nearest_lem};
 ghost use Rattle.mj_types.specs.Duals.{wide_at};
 ghost use Rattle.mj_types.specs.Ranges.{limited};
 ghost use Rattle.mj_types.specs.Masses as masses;
-ghost use Rattle.mj_factor.specs.Solves.{reduced};
+ghost use Rattle.mj_factor.specs.Solves as solves;
 ghost use Rattle.mj_factor.specs.Stored as spec;
 
 use fx_num::{Fix, Number, Wide, narrow_within};
 use fx_whole::{
-    Divisor, add_product, difference, isqrt, nearest, nearest_by, nearest_shift, scale_up,
+    Divisor, add_product, difference, isqrt, narrow, nearest, nearest_by, nearest_shift, scale_up,
 };
 use mj_types::{Mass, OutOfRange, Quantity};
 
@@ -90,16 +90,25 @@ pub(crate) fn over_pivot(y: &Fix<32>, d: &Fix<40>) -> Wide<32>
     }
 }
 
-/// `y / sqrt d` of a number at scale 32, at scale 24, rounded; the root is the whole one.
-pub(crate) fn over_root(y: &Fix<32>, d: &Fix<40>) -> Wide<24>
-    requires { pos (2 ^ 10) ≤ℤ d.now.mid }
-    ensures { result.raw ≡ reduced y.now.mid d.now.mid }
+/// The root of a pivot, rounded down.
+pub(crate) fn pivot_root(d: &Fix<40>) -> Fix<32>
+    requires least { pos (2 ^ 10) ≤ℤ d.now.mid }
+    requires most { d.now.mid ≤ℤ pos (2 ^ 60) }
+    ensures { result.mid ≡ solves.pivot_root d.now.mid }
+{
+    Fix::from_raw(narrow(isqrt(scale_up(d.mid, 24))))
+}
+
+/// `y / root` of a number at scale 32, at scale 24, rounded.
+pub(crate) fn over_root(y: &Fix<32>, root: &Fix<32>) -> Wide<24>
+    requires { pos 0 <ℤ root.now.mid }
+    ensures { result.raw ≡ nearest_lem (y.now.mid *ℤ pos (2 ^ 24)) root.now.mid }
 {
     if y.mid == 0 {
         return Wide { raw: 0 };
     }
     Wide {
-        raw: nearest(scale_up(y.mid, 24), isqrt(scale_up(d.mid, 24))),
+        raw: nearest(scale_up(y.mid, 24), i128::from(root.mid)),
     }
 }
 

@@ -1,6 +1,6 @@
 // A pendulum of two links, worked by hand: M is 5, 2; 2, 1, the right side 24, 8, and a is 8, -8.
 use crate::factoring::{entry, pivot};
-use crate::numbers::{divisor, less, over_pivot, over_root, plus_product};
+use crate::numbers::{divisor, less, over_pivot, over_root, pivot_root, plus_product};
 use crate::residual;
 use fx_list::Array;
 use fx_num::{Fix, Number, Wide};
@@ -54,7 +54,19 @@ fn solves_a_pendulum(rt: HostRuntime) {
     assert_eq!(rt; over_pivot(&eight, &one).raw, 34359738368);
     let forth: Wide<32> = less(&eight, &plus_product(&none, &lower, &eight));
     assert_eq!(rt; forth.raw, -34359738368);
-    assert_eq!(rt; over_root(&eight, &one).raw, 134217728);
+    let root = Fix::<32>::from_raw(4294967296);
+    assert_eq!(rt; over_root(&eight, &root).raw, 134217728);
+}
+
+#[test]
+fn the_root_of_a_pivot_is_rounded_down(rt: HostRuntime) {
+    assert_eq!(rt; pivot_root(&Fix::<40>::from_raw(1024)).mid, 131_072);
+    // the root of 2^40 + 1 is less than 2^32 + 1
+    assert_eq!(rt;
+        pivot_root(&Fix::<40>::from_raw(1_099_511_627_777)).mid,
+        4_294_967_296
+    );
+    assert_eq!(rt; pivot_root(&Fix::<40>::from_raw(1 << 60)).mid, 1 << 42);
 }
 
 #[test]

@@ -5,7 +5,7 @@ use Rattle.mj_types.specs.Parts.{number_at}
 use Rattle.mj_factor.specs.Solves.{back, half, reduced_fault}
 use Rattle.mj_factor.specs.Stored.{entry}
 use Rattle.mj_factor.proofs.BackLaws.{IsBackTo}
-use Rattle.mj_factor.proofs.solving.half_solve.Given as goal
+use Rattle.mj_factor.proofs.solving.half_solve_by.Given as goal
 
 abbrev pub invariant-loop-s : goal.invariant-loop-s
 invariant-loop-s l = record {

@@ -8,7 +8,7 @@ use Rattle.mj_factor.specs.Solves.{back, half, reduced, reduced_fault}
 use Rattle.mj_factor.specs.Stored.{entry}
 use Rattle.mj_factor.proofs.NumberLaws.{number_at_same, number_at_other}
 use Rattle.mj_factor.proofs.BackLaws.{IsBackTo, back_begins, back_here, back_more, sums_small}
-use Rattle.mj_factor.proofs.solving.half_solve.Goals as goal
+use Rattle.mj_factor.proofs.solving.half_solve_by.Goals as goal
 
 pub loop-s-init : goal.loop-s-init
 loop-s-init c =
