@@ -315,7 +315,8 @@ fn run_accepted<C: Cabinet, S: Sink>(
 }
 
 /// Does what the words' command does, and writes its text, or the one line of a refusal, to the sink:
-/// `run` reads a model from the cabinet, runs it and writes the trace; `gen` writes a generated model; `bench` runs one with a generated tape and writes the summary.
+/// `run` reads a model from the cabinet, runs it and writes the trace; `gen` writes a generated model;
+/// `bench` runs one with a generated tape and writes the summary.
 ///
 /// `outcome`: where the cabinet tells, the answer and what the sink gains are those of the outcome for
 /// these words and files, but for `ReadFault`, `WriteFault` and `Memory`. `nothing`: after `ReadFault`

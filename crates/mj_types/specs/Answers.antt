@@ -8,7 +8,6 @@ use Rattle.mj_types.specs.declared.status.Status.TheVariants as status
 abbrev pub model_code_name : ModelCode → List ℕ
 model_code_name code.TooLarge = codes "TooLarge"
 model_code_name code.NotToml = codes "NotToml"
-model_code_name code.NotBuilt = codes "NotBuilt"
 model_code_name code.UnknownKey = codes "UnknownKey"
 model_code_name code.MissingKey = codes "MissingKey"
 model_code_name code.FloatValue = codes "FloatValue"

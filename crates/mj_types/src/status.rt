@@ -14,7 +14,6 @@ pub enum ModelCode {
     /// The file is no TOML document.
     NotToml,
     /// A model of a form that isn't built yet.
-    NotBuilt,
     /// A key that its table doesn't have.
     UnknownKey,
     /// A required key isn't there.
@@ -59,7 +58,6 @@ impl ModelCode {
         match self {
             ModelCode::TooLarge => "TooLarge",
             ModelCode::NotToml => "NotToml",
-            ModelCode::NotBuilt => "NotBuilt",
             ModelCode::UnknownKey => "UnknownKey",
             ModelCode::MissingKey => "MissingKey",
             ModelCode::FloatValue => "FloatValue",

@@ -46,10 +46,6 @@ fn the_first_bad_word_is_named(rt: HostRuntime) -> Result<(), Fail> {
             ["bench", "--links", "1", "--seed", "7", "--steps", "10001"].as_slice(),
             7,
         ),
-            9,
-        ),
-            8,
-        ),
     ] {
         assert_eq!(rt; place_of(rt.alloc(), texts)?, Some(at));
     }
