@@ -4,7 +4,7 @@ use std::alloc::Global;
 use std::test::Fail;
 
 // A part of the slide, what stands in its place, what follows the file, and the kind and the index.
-const EARLY: [(&str, &str, &str, &str); 16] = [
+const EARLY: [(&str, &str, &str, &str); 21] = [
     (
         "name = \"a\"",
         "name = \"a\"\npos = [0, 0, 1024]",
@@ -90,6 +90,36 @@ const EARLY: [(&str, &str, &str, &str); 16] = [
         "[[body.joint]]\nname = \"y\"\naxis = [0, 1, 0]\n[[body]]\nname = \"b\"\nparent = \"a\"\npos = [100, 0, 0]\ninertial = { pos = [\"0.001\", 0, 0], mass = 1 }\n[[body.joint]]\nname = \"z\"\naxis = [0, 1, 0]",
         "",
         "Lower index=2",
+    ),
+    (
+        "mass = 1",
+        "mass = \"1e-7\"",
+        "[[tendon]]\njoint = [{ joint = \"z\", coef = 1024 }]\nrange = [0, 4]\n[keyframe]\nqpos = [\"-0.5\"]\n",
+        "Reduced index=1",
+    ),
+    (
+        "mass = 1 }\n[[body.joint]]\nname = \"z\"\ntype = \"slide\"",
+        "mass = \"1e-8\" }\n[[body.joint]]\nname = \"z\"\ntype = \"slide\"\nrange = [0, 4]\nsolreflimit = [-1, -1]\nsolimplimit = [\"0.5\", \"0.5\", 1, \"0.5\", 1]",
+        "[keyframe]\nqpos = [\"-0.5\"]\n",
+        "Regularizer index=1",
+    ),
+    (
+        "\"slide\"",
+        "\"slide\"\nrange = [0, 4]\nsolreflimit = [-1048576, -1]\nsolimplimit = [\"0.5\", \"0.5\", 1, \"0.5\", 1]",
+        "[keyframe]\nqpos = [-4]\n",
+        "Reference index=1",
+    ),
+    (
+        "mass = 1 }\n[[body.joint]]\nname = \"z\"\ntype = \"slide\"",
+        "mass = 8192 }\n[[body.joint]]\nname = \"z\"\ntype = \"slide\"\nrange = [0, 4]\nsolreflimit = [-1048576, -1]\nsolimplimit = [\"0.5\", \"0.5\", 1, \"0.5\", 1]",
+        "[keyframe]\nqpos = [\"-0.5\"]\n",
+        "Force index=1",
+    ),
+    (
+        "\"slide\"",
+        "\"slide\"\nrange = [0, 4]\nsolreflimit = [-262144, -1]\nsolimplimit = [\"0.5\", \"0.5\", 1, \"0.5\", 1]",
+        "[keyframe]\nqpos = [\"-0.5\"]\n",
+        "Reach index=1",
     ),
 ];
 
