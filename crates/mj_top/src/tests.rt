@@ -2,6 +2,7 @@
 ghost use Rattle.std.specs.Prelude.{◌≤◌};
 
 mod generated;
+mod humanoid;
 mod models;
 mod ranges;
 mod rows;
