@@ -1,5 +1,5 @@
 // Judging the words after the program's name. It takes no memory.
-ghost use Rattle.std.specs.Prelude.{◌≡◌, ◌+◌, ◌*◌, ◌<◌, ◌≤◌, ◌^◌, map, length, max, None, IfSome, option_map, string_bytes};
+ghost use Rattle.std.specs.Prelude.{◌≡◌, ◌+◌, ◌*◌, ◌<◌, ◌≤◌, ◌^◌, map, length, max, None, Some, IfSome, option_map, string_bytes};
 ghost use Rattle.std.specs.List.{list_all};
 ghost use Rattle.fx_whole.specs.Counting.{count_to};
 ghost use Rattle.mj_words.specs.Accepted.{AcceptedHaveNoBadPlace};
@@ -302,6 +302,17 @@ pub fn nth_tape(words: &[String], k: usize) -> Option<&str>
         }
     }
     None
+}
+
+/// The name of the file of tape `k`, counted from 0, of those that the words name.
+pub fn tape_name(words: &[String], k: usize) -> &str
+    requires { k < spec.tape_count (map string_bytes words.now) }
+    ensures { spec.nth_tape (map string_bytes words.now) k ≡ Some result.now }
+{
+    match nth_tape(words, k) {
+        Some(name) => name,
+        None => "",
+    }
 }
 
 /// Whether accepted words ask for each step's dual.
