@@ -28,7 +28,7 @@ fn count_if(test: bool, n: u64) -> u64
 
 // How many rows are in the dual.
 fn count_active(rows: &Listing<Row>) -> u64
-    requires { length rows.now.list ≤ 1024 }
+    requires { rows.now.most ≤ 1024 }
     ensures count { result ≡ active_count rows.now.list }
     ensures few { result ≤ 1024 }
 {
@@ -41,7 +41,7 @@ fn count_active(rows: &Listing<Row>) -> u64
 
 // How many rows are idle.
 fn count_idle(rows: &Listing<Row>) -> u64
-    requires { length rows.now.list ≤ 1024 }
+    requires { rows.now.most ≤ 1024 }
     ensures count { result ≡ idle_count rows.now.list }
     ensures few { result ≤ 1024 }
 {
@@ -142,7 +142,7 @@ fn ended(sum: Summary, end: End) -> Summary
 
 // The sums with one step more, which this report tells of.
 fn with_step(sum: Summary, report: &StepReport) -> Summary
-    requires rows { length report.now.rows.list ≤ 1024 }
+    requires rows { report.now.rows.most ≤ 1024 }
     requires gap { HasGap report.now.cert }
     requires residual { pos 0 ≤ℤ report.now.residual }
     requires spare { spec.HasSpareSums sum }

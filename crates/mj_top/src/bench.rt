@@ -49,7 +49,7 @@ fn sum_model<S: Sink>(
     controls: &Controls,
     steps: u32,
 ) -> Status
-    requires serves { Serves controls.now (length model.now.motors) steps }
+    requires { Serves controls.now (length model.now.motors) steps }
     ensures { EndsOrMemory S.holds S.faults (spec.summed steps model.now (taped controls.now))
         sink.old result sink.new }
 {

@@ -11,6 +11,7 @@ count_if-active-requires c =
     let within = c.loop-i-test.true in
     let many = c.len-i-end.ensures.count in
     let few = c.requires in
+    let most = c.len-i-end.ensures.most in
     omega arith
 
 pub returns : goal.returns
@@ -19,5 +20,6 @@ returns c =
     let counted = c.loop-i.invariant.counted in
     let many = c.len-i-end.ensures.count in
     let few = c.requires in
+    let most = c.len-i-end.ensures.most in
     let all : c.loop-i.i ≡ length c.args.rows.now.list = omega arith in
     record { count = counted ∙ ap (λ n. count_to n (is_active c.args.rows.now.list)) all; few = omega arith }

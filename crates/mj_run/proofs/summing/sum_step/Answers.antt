@@ -13,3 +13,8 @@ with_step-requires-clause-residual c =
 pub returns-clause-more : goal.returns-clause-more
 returns-clause-more c = λ told here so_far.
     c.with_step.ensures.more told c.step.new.state (ap (values_of c.step.new.state) c.report.ensures ∙ c.in_ok-step.ensures.report ∙ here) so_far
+
+pub with_step-requires-clause-rows : goal.with_step-requires-clause-rows
+with_step-requires-clause-rows c =
+    let most = ap (λ r. r.rows.most) c.report.ensures in
+    omega (arith, most, c.in_ok-step.ensures.made.report.rows, c.args.model.now.of_options.few_rows)

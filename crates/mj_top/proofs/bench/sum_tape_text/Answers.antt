@@ -6,8 +6,8 @@ use Rattle.mj_top.specs.Outcome.{tape_room}
 use Rattle.mj_top.proofs.Served.{judged-serves}
 use Rattle.mj_top.proofs.bench.sum_tape_text.Goals as goal
 
-pub sum_model-requires-clause-serves : goal.sum_model-requires-clause-serves
-sum_model-requires-clause-serves g c =
+pub sum_model-requires : goal.sum_model-requires
+sum_model-requires g c =
     let width = length c.args.model.now.motors in
     let values : TapeValues = record { rows = c.in-Ok.tape.rows; width = c.in-Ok.tape.width; values = raws c.in-Ok.tape.values } in
     judged-serves width c.args.steps tape_room c.args.bytes.now values (or_memory-ok Memory values (tape_verdict width c.args.steps tape_room c.args.bytes.now) c.in-Ok.ensures)
