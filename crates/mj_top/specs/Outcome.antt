@@ -119,6 +119,49 @@ batched n m tapes = record {
   text = batch_text m n tapes;
 }
 
+-- ---- a batch, by its words and the files that are held
+module _ (held : List ℕ → Option (List ℕ)) (words : List (List ℕ)) (m : Model) where
+  -- the file of tape t is judged so, in the room that the tapes before it leave
+  abbrev pub IsTapeJudged : List TapeValues → ℕ → Result TapeValues TapeFault → Type 0
+  IsTapeJudged tapes t answer =
+      (file : List ℕ) × (option_and_then held (nth_tape words t) ≡ Some file)
+      × (tape_verdict (length m.motors) (step_count words) (tape_room - kept_before tapes t) (take tape_cap file) ≡ answer)
+
+  -- these are the first tapes, each of them accepted
+  abbrev pub AreFirstTapes : List TapeValues → Type 0
+  AreFirstTapes tapes = (t : ℕ) → t < length tapes → IsTapeJudged tapes t (Ok (tape_at tapes t))
+
+  -- all are accepted, and the model runs with each
+  abbrev pub RunsAll : List TapeValues → Outcome → Type 0
+  RunsAll tapes outcome =
+      (length tapes ≡ tape_count words) × (outcome ≡ batched (step_count words) m tapes)
+
+  -- the one after these is refused
+  abbrev pub RefusesNext : List TapeValues → Outcome → Type 0
+  RefusesNext tapes outcome =
+      (fault : TapeFault) × IsTapeJudged tapes (length tapes) (Err fault) × (outcome ≡ tape_refused (length tapes + 1) fault)
+
+  -- of the tapes, in their order
+  abbrev pub IsTapesOutcome : Outcome → Type 0
+  IsTapesOutcome outcome =
+      (tapes : List TapeValues) × AreFirstTapes tapes × (RunsAll tapes outcome ⊎ RefusesNext tapes outcome)
+
+module _ (held : List ℕ → Option (List ℕ)) (words : List (List ℕ)) where
+  -- the model is refused, or accepted, and then the tapes are judged
+  abbrev pub IsTapesOutcomeOf : Result Model ModelFault → Outcome → Type 0
+  IsTapesOutcomeOf (Ok m) outcome = IsTapesOutcome held words m outcome
+  IsTapesOutcomeOf (Err fault) outcome = outcome ≡ model_refused fault
+
+  -- of what the bytes of the model's file are judged to be
+  abbrev pub IsBatchFileOutcome : List ℕ → Outcome → Type 0
+  IsBatchFileOutcome bytes outcome =
+      (judged : Result Model ModelFault) × (told judged ≡ judged_bytes bytes) × IsTapesOutcomeOf judged outcome
+
+  -- `batch`: of the model's file
+  abbrev pub IsBatchOutcome : Outcome → Type 0
+  IsBatchOutcome outcome =
+      (file : List ℕ) × (held (model_of words) ≡ Some file) × IsBatchFileOutcome (take model_cap file) outcome
+
 module _ (held : List ℕ → Option (List ℕ)) where
   -- no tape is named, or its file is read; none where nothing is held under that name
   abbrev pub with_tape_name : Bool → ℕ → Model → Option (List ℕ) → Option Outcome
@@ -141,56 +184,13 @@ module _ (held : List ℕ → Option (List ℕ)) where
       (file : List ℕ) × (held (model_of words) ≡ Some file)
       × IsFileOutcome (wants_dual words) (step_count words) (tape_of words) (take model_cap file) outcome
 
-  -- ---- a batch: the words, and a model that they gave
-  module _ (words : List (List ℕ)) where
-    module _ (m : Model) where
-      -- the file of tape t is judged so, in the room that the tapes before it leave
-      abbrev pub IsTapeJudged : List TapeValues → ℕ → Result TapeValues TapeFault → Type 0
-      IsTapeJudged tapes t answer =
-          (file : List ℕ) × (option_and_then held (nth_tape words t) ≡ Some file)
-          × (tape_verdict (length m.motors) (step_count words) (tape_room - kept_before tapes t) (take tape_cap file) ≡ answer)
-
-      -- these are the first tapes, each of them accepted
-      abbrev pub AreFirstTapes : List TapeValues → Type 0
-      AreFirstTapes tapes = (t : ℕ) → t < length tapes → IsTapeJudged tapes t (Ok (tape_at tapes t))
-
-      -- all are accepted, and the model runs with each
-      abbrev pub RunsAll : List TapeValues → Outcome → Type 0
-      RunsAll tapes outcome =
-          (length tapes ≡ tape_count words) × (outcome ≡ batched (step_count words) m tapes)
-
-      -- the one after these is refused
-      abbrev pub RefusesNext : List TapeValues → Outcome → Type 0
-      RefusesNext tapes outcome =
-          (fault : TapeFault) × IsTapeJudged tapes (length tapes) (Err fault) × (outcome ≡ tape_refused (length tapes + 1) fault)
-
-      -- of the tapes, in their order
-      abbrev pub IsTapesOutcome : Outcome → Type 0
-      IsTapesOutcome outcome =
-          (tapes : List TapeValues) × AreFirstTapes tapes × (RunsAll tapes outcome ⊎ RefusesNext tapes outcome)
-
-    -- the model is refused, or accepted, and then the tapes are judged
-    abbrev pub IsTapesOutcomeOf : Result Model ModelFault → Outcome → Type 0
-    IsTapesOutcomeOf (Ok m) outcome = IsTapesOutcome m outcome
-    IsTapesOutcomeOf (Err fault) outcome = outcome ≡ model_refused fault
-
-    -- of what the bytes of the model's file are judged to be
-    abbrev pub IsBatchFileOutcome : List ℕ → Outcome → Type 0
-    IsBatchFileOutcome bytes outcome =
-        (judged : Result Model ModelFault) × (told judged ≡ judged_bytes bytes) × IsTapesOutcomeOf judged outcome
-
-    -- `batch`: of the model's file
-    abbrev pub IsBatchOutcome : Outcome → Type 0
-    IsBatchOutcome outcome =
-        (file : List ℕ) × (held (model_of words) ≡ Some file) × IsBatchFileOutcome (take model_cap file) outcome
-
   -- of each command
   abbrev pub IsCommandOutcome : Command → List (List ℕ) → Outcome → Type 0
   IsCommandOutcome command.Run words outcome = IsRunOutcome words outcome
   IsCommandOutcome command.Gen words outcome = outcome ≡ generated (seed_of words) (link_count words)
   IsCommandOutcome command.Bench words outcome =
       IsBenchOutcome (seed_of words) (link_count words) (step_count words) outcome
-  IsCommandOutcome command.Batch words outcome = IsBatchOutcome words outcome
+  IsCommandOutcome command.Batch words outcome = IsBatchOutcome held words outcome
 
   -- the words are refused, or do what their command does
   abbrev pub IsWordsOutcome : List (List ℕ) → Option ℕ → Outcome → Type 0

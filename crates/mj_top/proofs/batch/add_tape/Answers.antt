@@ -1,4 +1,5 @@
-use Rattle.std.proofs.Common.{◌≡◌, ◌∙◌, map, string_bytes, sym, subst, refl, IsTrue, Bool, List, ℕ, take, Some}
+use Rattle.std.proofs.Common.{◌≡◌, ◌∙◌, map, string_bytes, sym, subst, refl, IsTrue, Bool, List, ℕ, take, Some, Err, ap}
+use Rattle.mj_io.specs.declared.cabinet.CabinetFault.TheVariants as cabinet
 use Rattle.mj_io.proofs.Faults.{Rose-after}
 use Rattle.mj_io.proofs.Growth.{Gives-held}
 use Rattle.mj_top.specs.Outcome.{tape_cap}
@@ -19,11 +20,12 @@ returns-in-Ok g c = record {
       c.add_tape_file.new.jobs.items reads (g.C.Cabinet.faults c.read.new.self) c.add_tape_file.result taken c.add_tape_file.ensures;
 }
 
-pub returns-in-Failed : goal.returns-in-Failed
-returns-in-Failed g c = record {
-  reads = record { still = c.in-Err.ensures.tells_on; same = c.in-Err.ensures.holds_on; later = c.in-Err.ensures.later };
+pub returns-in-Err-Failed : goal.returns-in-Err-Failed
+returns-in-Err-Failed g c = record {
+  reads = record { still = c.in-Err-Failed.ensures.tells_on; same = c.in-Err-Failed.ensures.holds_on; later = c.in-Err-Failed.ensures.later };
   next = λ tells held reads on taken.
       let name = c.tape_name.result.now in
-      let rose = c.in-Err.ensures.cause refl in
+      let failed : c.in-Err-Failed.field-0 ≡ cabinet.Failed = (let is = c.in-Err-Failed.field-0-is in cc) in
+      let rose = c.in-Err-Failed.ensures.cause (ap Err failed) in
       (c.args.k, (name, c.tape_name.ensures, Rose-after (reads name) (g.C.Cabinet.faults c.args.cabinet.now name) (g.C.Cabinet.faults c.read.new.self name) (on.later name) rose), λ told. (taken.tapes, taken.count, taken.accepted told));
 }

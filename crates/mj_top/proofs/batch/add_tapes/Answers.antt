@@ -20,8 +20,8 @@ loop-k-init g c =
 
 pub add_tape-requires : goal.add_tape-requires
 add_tape-requires g c =
-    let few = c.tape_count.ensures.few c.requires.good c.requires.batch in
-    let value = c.tape_count.ensures.value in
+    let few = c.tape_count-k-end.ensures.few c.requires.good c.requires.batch in
+    let value = c.tape_count-k-end.ensures.value in
     let taken = c.loop-k.invariant.taken in
     let here = c.loop-k-test.true in
     record {
@@ -53,6 +53,6 @@ pub returns : goal.returns
 returns g c =
     let words = map string_bytes c.args.words.now in
     let cabinet = c.args.cabinet.now in
-    let all : c.loop-k.k ≡ tape_count words = omega (arith, c.tape_count.ensures.value) in
+    let all : c.loop-k.k ≡ tape_count words = omega (arith, c.tape_count-k-end.ensures.value) in
     let P = λ (k : ℕ). HasTaken words (g.C.Cabinet.tells cabinet) (g.C.Cabinet.holds cabinet) c.args.model.now k c.loop-k.room c.loop-k.jobs.items in
     (c.loop-k.room, subst P all c.loop-k.invariant.taken)

@@ -17,11 +17,12 @@ returns-in-Ok g c =
     let m = c.args.model.now in
     let n = step_count words in
     let taken = c.in-Ok.ensures.1 in
+    let Q = λ (jobs : List RunJob). AreJobsOf m n taken.tapes jobs in
     let before = c.args.sink.now in
     let after = c.run_jobs-status.new.sink in
     let answer = c.run_jobs-status.result in
     let outcome = batched n m taken.tapes in
-    let ends : Ends g.S.Sink.holds g.S.Sink.faults outcome before answer after = c.run_jobs-status.ensures m n taken.tapes taken.due in
+    let ends : Ends g.S.Sink.holds g.S.Sink.faults outcome before answer after = c.run_jobs-status.ensures m n taken.tapes (subst Q (sym c.as_mut_slice.ensures.value) taken.due) in
     record {
       outcome = λ told. answers-from_ends g.S.Sink.holds g.S.Sink.faults before after (IsTapesOutcome held words m) outcome answer (taken.tapes, taken.accepted told, inl (taken.count, refl)) ends;
       nothing = nothing-from_ends g.S.Sink.holds g.S.Sink.faults before after outcome answer ends;
