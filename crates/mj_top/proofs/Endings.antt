@@ -1,6 +1,7 @@
 -- Laws of how a command ends.
-use Rattle.std.proofs.Common.{◌≡◌, inl, inr, ℕ, Bool, true, false, List, Option, Some, None, Result, Ok, Err, option_map, cond, length, take, refl, sym, ap, ◌∙◌, subst}
+use Rattle.std.proofs.Common.{◌≡◌, ◌≤◌, inl, inr, ℕ, Bool, true, false, List, Option, Some, None, Result, Ok, Err, option_map, cond, length, take, refl, sym, ap, ◌∙◌, subst}
 use Rattle.mj_io.specs.Faults.{Rose}
+use Rattle.mj_io.proofs.Faults.{Rose-after}
 use Rattle.mj_io.specs.Growth.{Grew}
 use Rattle.mj_io.specs.Sent.{Wrote}
 use Rattle.mj_types.specs.declared.model.Model.{Model}
@@ -19,7 +20,7 @@ use Rattle.mj_words.specs.declared.table.Command.{Command}
 use Rattle.mj_words.specs.declared.table.Command.TheVariants as command
 use Rattle.mj_words.specs.Words.{bad_place, command_of, model_of, step_count, tape_of, wants_dual}
 use Rattle.mj_top.specs.Outcome.{Outcome, IsOutcome, IsFileOutcome, IsCommandOutcome, IsWordsOutcome, words_refused, status_of, tape_room, with_summed_tape, bench_of, IsBenchOutcome, with_tape, with_tape_file, with_tape_name, with_model, model_cap}
-use Rattle.mj_top.specs.Ends.{Answers, WritesNothing, HasCause, Completes, RunReadRose, CommandReadRose, ReadRose, TapeRose, HasTapeCause, Ends, EndsOrMemory, EndsMeant, unless_failed}
+use Rattle.mj_top.specs.Ends.{Answers, WritesNothing, HasCause, Completes, RunReadRose, BatchReadRose, CommandReadRose, ReadRose, TapeRose, HasLaterCause, Ends, EndsOrMemory, EndsMeant, unless_failed}
 
 -- a status that tells of an outcome, and of no fault
 abbrev pub IsTold : Status → Type 0
@@ -134,21 +135,21 @@ module _ {K : Type 0} (holds : K → Option (List ℕ)) (faults : K → ℕ) (a 
   cause-from_refused words tells held at status.Memory reads reads' bad ends = absurd ends
 
   -- what ends after the words has its cause
-  pub tape_cause-from_ends : (tape : Option (List ℕ)) (outcome : Outcome) (answer : Status) (reads reads' : List ℕ → ℕ) → IsLater outcome.status → Ends holds faults outcome a answer b → HasTapeCause tape answer reads reads' (faults a) (faults b)
-  tape_cause-from_ends tape outcome status.Done reads reads' later ends = tt
-  tape_cause-from_ends tape outcome (status.BadWords at) reads reads' later ends = let P = λ (s : Status). IsLater s in subst P (sym ends.same) later
-  tape_cause-from_ends tape outcome (status.OutOfRange step kind index) reads reads' later ends = tt
-  tape_cause-from_ends tape outcome (status.BadModel fault) reads reads' later ends = tt
-  tape_cause-from_ends tape outcome (status.BadTape number fault) reads reads' later ends = tt
-  tape_cause-from_ends tape outcome status.ReadFault reads reads' later ends = absurd ends
-  tape_cause-from_ends tape outcome status.WriteFault reads reads' later ends = ends.1
-  tape_cause-from_ends tape outcome status.Memory reads reads' later ends = tt
+  pub later_cause-from_ends : (Read : Type 0) (outcome : Outcome) (answer : Status) → IsLater outcome.status → Ends holds faults outcome a answer b → HasLaterCause Read answer (faults a) (faults b)
+  later_cause-from_ends Read outcome status.Done later ends = tt
+  later_cause-from_ends Read outcome (status.BadWords at) later ends = let P = λ (s : Status). IsLater s in subst P (sym ends.same) later
+  later_cause-from_ends Read outcome (status.OutOfRange step kind index) later ends = tt
+  later_cause-from_ends Read outcome (status.BadModel fault) later ends = tt
+  later_cause-from_ends Read outcome (status.BadTape number fault) later ends = tt
+  later_cause-from_ends Read outcome status.ReadFault later ends = absurd ends
+  later_cause-from_ends Read outcome status.WriteFault later ends = ends.1
+  later_cause-from_ends Read outcome status.Memory later ends = tt
 
-  pub tape_cause-from_either : (tape : Option (List ℕ)) (outcome : Outcome) (answer : Status) (reads reads' : List ℕ → ℕ) → IsLater outcome.status → EndsOrMemory holds faults outcome a answer b → HasTapeCause tape answer reads reads' (faults a) (faults b)
-  tape_cause-from_either tape outcome answer reads reads' later (inl wanted) =
-      let P = λ (s : Status). HasTapeCause tape s reads reads' (faults a) (faults b) in
+  pub later_cause-from_either : (Read : Type 0) (outcome : Outcome) (answer : Status) → IsLater outcome.status → EndsOrMemory holds faults outcome a answer b → HasLaterCause Read answer (faults a) (faults b)
+  later_cause-from_either Read outcome answer later (inl wanted) =
+      let P = λ (s : Status). HasLaterCause Read s (faults a) (faults b) in
       subst P (sym wanted.0) tt
-  tape_cause-from_either tape outcome answer reads reads' later (inr ends) = tape_cause-from_ends tape outcome answer reads reads' later ends
+  later_cause-from_either Read outcome answer later (inr ends) = later_cause-from_ends Read outcome answer later ends
 
 module _ {K : Type 0} (holds : K → Option (List ℕ)) (faults : K → ℕ) (a b : K) (Meant : Outcome → Type 0) (answer : Status) where
   pub meant-from_either : (outcome : Outcome) → Meant outcome → EndsOrMemory holds faults outcome a answer b → EndsMeant holds faults Meant a answer b
@@ -167,11 +168,11 @@ module _ {K : Type 0} (holds : K → Option (List ℕ)) (faults : K → ℕ) (a 
       subst P (sym wanted.0) (ap holds wanted.1)
   nothing-from_meant (inr ends) = nothing-from_ends holds faults a b ends.0 answer ends.2
 
-  pub tape_cause-from_meant : (tape : Option (List ℕ)) (reads reads' : List ℕ → ℕ) → ((o : Outcome) → Meant o → IsLater o.status) → EndsMeant holds faults Meant a answer b → HasTapeCause tape answer reads reads' (faults a) (faults b)
-  tape_cause-from_meant tape reads reads' later (inl wanted) =
-      let P = λ (s : Status). HasTapeCause tape s reads reads' (faults a) (faults b) in
+  pub later_cause-from_meant : (Read : Type 0) → ((o : Outcome) → Meant o → IsLater o.status) → EndsMeant holds faults Meant a answer b → HasLaterCause Read answer (faults a) (faults b)
+  later_cause-from_meant Read later (inl wanted) =
+      let P = λ (s : Status). HasLaterCause Read s (faults a) (faults b) in
       subst P (sym wanted.0) tt
-  tape_cause-from_meant tape reads reads' later (inr ends) = tape_cause-from_ends holds faults a b tape ends.0 answer reads reads' (later ends.0 ends.1) ends.2
+  later_cause-from_meant Read later (inr ends) = later_cause-from_ends holds faults a b Read ends.0 answer (later ends.0 ends.1) ends.2
 
 -- ---- a bench comes after the words
 later-summed : (n : ℕ) (m : Model) (answer : Result TapeValues TapeFault) → IsLater (with_summed_tape n m answer).status
@@ -187,27 +188,32 @@ pub bench-later : (seed links n : ℕ) (o : Outcome) → IsBenchOutcome seed lin
 bench-later seed links n o meant =
     let P = λ (x : Outcome). IsLater x.status in subst P (sym meant.2) (later-bench seed links n meant.0)
 
--- the cause that follows the model's, as the whole command's, from counts that stood lower before the model was read
-pub cause-from_tape : (words : List (List ℕ)) (tells : Bool) (held : List ℕ → Option (List ℕ)) (tape : Option (List ℕ)) (answer : Status) (reads reads' : List ℕ → ℕ) (writes writes' : ℕ) → bad_place words ≡ None → (TapeRose tape reads reads' → answer ≡ status.ReadFault → ReadRose words tells held reads reads') → HasTapeCause tape answer reads reads' writes writes' → HasCause words tells held answer reads reads' writes writes'
-cause-from_tape words tells held tape status.Done reads reads' writes writes' good rose cause = good
-cause-from_tape words tells held tape (status.BadWords at) reads reads' writes writes' good rose cause = absurd cause
-cause-from_tape words tells held tape (status.OutOfRange step kind index) reads reads' writes writes' good rose cause = good
-cause-from_tape words tells held tape (status.BadModel fault) reads reads' writes writes' good rose cause = good
-cause-from_tape words tells held tape (status.BadTape number fault) reads reads' writes writes' good rose cause = good
-cause-from_tape words tells held tape status.ReadFault reads reads' writes writes' good rose cause = (good, rose cause refl)
-cause-from_tape words tells held tape status.WriteFault reads reads' writes writes' good rose cause = cause
-cause-from_tape words tells held tape status.Memory reads reads' writes writes' good rose cause = good
+-- the cause of an answer that comes after judging the words, as the whole command's
+pub cause-from_later : (words : List (List ℕ)) (tells : Bool) (held : List ℕ → Option (List ℕ)) (Read : Type 0) (answer : Status) (reads reads' : List ℕ → ℕ) (writes writes' : ℕ) → bad_place words ≡ None → (Read → answer ≡ status.ReadFault → ReadRose words tells held reads reads') → HasLaterCause Read answer writes writes' → HasCause words tells held answer reads reads' writes writes'
+cause-from_later words tells held Read status.Done reads reads' writes writes' good rose cause = good
+cause-from_later words tells held Read (status.BadWords at) reads reads' writes writes' good rose cause = absurd cause
+cause-from_later words tells held Read (status.OutOfRange step kind index) reads reads' writes writes' good rose cause = good
+cause-from_later words tells held Read (status.BadModel fault) reads reads' writes writes' good rose cause = good
+cause-from_later words tells held Read (status.BadTape number fault) reads reads' writes writes' good rose cause = good
+cause-from_later words tells held Read status.ReadFault reads reads' writes writes' good rose cause = (good, rose cause refl)
+cause-from_later words tells held Read status.WriteFault reads reads' writes writes' good rose cause = cause
+cause-from_later words tells held Read status.Memory reads reads' writes writes' good rose cause = good
 
--- the counts may have stood lower before
-pub tape_cause-earlier : (tape : Option (List ℕ)) (answer : Status) (reads between reads' : List ℕ → ℕ) (writes writes' : ℕ) → ((n : List ℕ) → Rose (between n) (reads' n) → Rose (reads n) (reads' n)) → HasTapeCause tape answer between reads' writes writes' → HasTapeCause tape answer reads reads' writes writes'
-tape_cause-earlier tape status.Done reads between reads' writes writes' lower cause = tt
-tape_cause-earlier tape (status.BadWords at) reads between reads' writes writes' lower cause = cause
-tape_cause-earlier tape (status.OutOfRange step kind index) reads between reads' writes writes' lower cause = tt
-tape_cause-earlier tape (status.BadModel fault) reads between reads' writes writes' lower cause = tt
-tape_cause-earlier tape (status.BadTape number fault) reads between reads' writes writes' lower cause = tt
-tape_cause-earlier tape status.ReadFault reads between reads' writes writes' lower cause = (cause.0, cause.1, lower cause.0 cause.2)
-tape_cause-earlier tape status.WriteFault reads between reads' writes writes' lower cause = cause
-tape_cause-earlier tape status.Memory reads between reads' writes writes' lower cause = tt
+-- a fault in reading that means more
+pub later_cause-within : (Read Wider : Type 0) (answer : Status) (writes writes' : ℕ) → (Read → Wider) → HasLaterCause Read answer writes writes' → HasLaterCause Wider answer writes writes'
+later_cause-within Read Wider status.Done writes writes' wider cause = tt
+later_cause-within Read Wider (status.BadWords at) writes writes' wider cause = cause
+later_cause-within Read Wider (status.OutOfRange step kind index) writes writes' wider cause = tt
+later_cause-within Read Wider (status.BadModel fault) writes writes' wider cause = tt
+later_cause-within Read Wider (status.BadTape number fault) writes writes' wider cause = tt
+later_cause-within Read Wider status.ReadFault writes writes' wider cause = wider cause
+later_cause-within Read Wider status.WriteFault writes writes' wider cause = cause
+later_cause-within Read Wider status.Memory writes writes' wider cause = tt
+
+-- counts under a tape's name may have stood lower before
+pub tape_rose-earlier : (tape : Option (List ℕ)) (reads between reads' : List ℕ → ℕ) → ((n : List ℕ) → reads n ≤ between n) → TapeRose tape between reads' → TapeRose tape reads reads'
+tape_rose-earlier tape reads between reads' later rose =
+    let n = rose.0 in (n, rose.1, Rose-after (reads n) (between n) (reads' n) (later n) rose.2)
 
 -- ---- outcomes are the same for files that are held alike
 with_tape_name-same : (held held' : List ℕ → Option (List ℕ)) (wants : Bool) (n : ℕ) (m : Model) (tape : Option (List ℕ)) → ((name : List ℕ) → held' name ≡ held name)
@@ -239,6 +245,7 @@ pub run_read-rose : (words : List (List ℕ)) (tells : Bool) (held : List ℕ �
 run_read-rose words tells held reads reads' run rose =
     let P = λ (k : Command). CommandReadRose k words tells held reads reads' in subst P (sym run) rose
 
--- without a tape no read of one failed
-pub none-rose : {P : Type 0} (reads reads' : List ℕ → ℕ) → TapeRose None reads reads' → P
-none-rose reads reads' rose = absurd (let e = rose.1 in cc)
+-- the same of a batch
+pub batch_read-rose : (words : List (List ℕ)) (tells : Bool) (held : List ℕ → Option (List ℕ)) (reads reads' : List ℕ → ℕ) → command_of words ≡ command.Batch → BatchReadRose words tells held reads reads' → ReadRose words tells held reads reads'
+batch_read-rose words tells held reads reads' batch rose =
+    let P = λ (k : Command). CommandReadRose k words tells held reads reads' in subst P (sym batch) rose

@@ -1,15 +1,16 @@
 -- How a command ends, against its outcome, and the cause of each answer.
-use Rattle.std.specs.Prelude.{◌≡◌, ◌⊎◌, ℕ, List, Option, Some, None, Result, Ok, Err, Bool, IsTrue, take}
+use Rattle.std.specs.Prelude.{◌≡◌, ◌⊎◌, ℕ, List, length, Option, Some, None, Result, Ok, Err, Bool, IsTrue, take}
 use Rattle.mj_io.specs.Faults.{Rose}
 use Rattle.mj_io.specs.Growth.{Grew, GrewPart}
 use Rattle.mj_types.specs.declared.model.Model.{Model}
 use Rattle.mj_types.specs.declared.status.Status.{Status}
 use Rattle.mj_types.specs.declared.status.Status.TheVariants as status
+use Rattle.mj_tape.specs.Judging.{TapeValues}
 use Rattle.mj_valid.specs.Judging.{accepted_of, judged_bytes}
 use Rattle.mj_words.specs.declared.table.Command.{Command}
 use Rattle.mj_words.specs.declared.table.Command.TheVariants as command
-use Rattle.mj_words.specs.Words.{bad_place, command_of, model_of, tape_of}
-use Rattle.mj_top.specs.Outcome.{Outcome, IsOutcome, model_cap}
+use Rattle.mj_words.specs.Words.{bad_place, command_of, model_of, tape_of, nth_tape}
+use Rattle.mj_top.specs.Outcome.{Outcome, IsOutcome, AreFirstTapes, model_cap}
 
 -- the status is the outcome's, and its whole text was written
 pub record EndsWhole (outcome : Outcome) (old : Option (List ℕ)) (answer : Status) (new : Option (List ℕ)) : Type 0 where
@@ -57,12 +58,42 @@ abbrev pub RunReadRose :
 RunReadRose words tells held reads reads' =
     Rose (reads (model_of words)) (reads' (model_of words)) ⊎ (TapeRose (tape_of words) reads reads' × (IsTrue tells → AcceptsModel words held))
 
+-- of a batch, the first t tapes are held and accepted for this model
+abbrev pub AcceptsTapes : List (List ℕ) → (List ℕ → Option (List ℕ)) → Model → ℕ → Type 0
+AcceptsTapes words held m t =
+    (tapes : List TapeValues) × (length tapes ≡ t) × AreFirstTapes held words m tapes
+
+-- and that model is what these bytes are judged to be
+abbrev pub AcceptsTapesOf : List (List ℕ) → (List ℕ → Option (List ℕ)) → List ℕ → ℕ → Type 0
+AcceptsTapesOf words held bytes t =
+    (model : Model) × (judged_bytes bytes ≡ Ok (accepted_of model)) × AcceptsTapes words held model t
+
+-- and these are the bytes of the model's file
+abbrev pub AcceptsBatch : List (List ℕ) → (List ℕ → Option (List ℕ)) → ℕ → Type 0
+AcceptsBatch words held t =
+    (file : List ℕ) × (held (model_of words) ≡ Some file) × AcceptsTapesOf words held (take model_cap file) t
+
+-- the cabinet's count rose under the name of one of a batch's tapes; where the cabinet tells, what is
+-- meant of the tapes before it holds
+abbrev pub NthTapeRose :
+    List (List ℕ) → Bool → (ℕ → Type 0) → (List ℕ → ℕ) → (List ℕ → ℕ) → Type 0
+NthTapeRose words tells Before reads reads' =
+    (t : ℕ) × TapeRose (nth_tape words t) reads reads' × (IsTrue tells → Before t)
+
+-- a read failed in a batch: of the model's file; or of a tape's, and there, where the cabinet tells,
+-- the model and the tapes before it are accepted
+abbrev pub BatchReadRose :
+    List (List ℕ) → Bool → (List ℕ → Option (List ℕ)) → (List ℕ → ℕ) → (List ℕ → ℕ) → Type 0
+BatchReadRose words tells held reads reads' =
+    Rose (reads (model_of words)) (reads' (model_of words)) ⊎ NthTapeRose words tells (AcceptsBatch words held) reads reads'
+
 -- a read failed in a command; one that generates its model reads no file
 abbrev pub CommandReadRose : Command
     → List (List ℕ) → Bool → (List ℕ → Option (List ℕ)) → (List ℕ → ℕ) → (List ℕ → ℕ) → Type 0
 CommandReadRose command.Run words tells held reads reads' = RunReadRose words tells held reads reads'
 CommandReadRose command.Gen words tells held reads reads' = ⊥
 CommandReadRose command.Bench words tells held reads reads' = ⊥
+CommandReadRose command.Batch words tells held reads reads' = BatchReadRose words tells held reads reads'
 
 abbrev pub ReadRose :
     List (List ℕ) → Bool → (List ℕ → Option (List ℕ)) → (List ℕ → ℕ) → (List ℕ → ℕ) → Type 0
@@ -88,12 +119,12 @@ module _ (words : List (List ℕ)) (tells : Bool) (held : List ℕ → Option (L
   Completes answer reads reads' writes writes' =
       ¬ ReadRose words tells held reads reads' → ¬ Rose writes writes' → (answer ≡ status.Memory) ⊎ IsMeant (IsOutcome words held) answer
 
--- the cause of an answer once a model is accepted, with the tape's name where one is given
-abbrev pub HasTapeCause : Option (List ℕ) → Status → (List ℕ → ℕ) → (List ℕ → ℕ) → ℕ → ℕ → Type 0
-HasTapeCause tape (status.BadWords at) reads reads' writes writes' = ⊥
-HasTapeCause tape status.ReadFault reads reads' writes writes' = TapeRose tape reads reads'
-HasTapeCause tape status.WriteFault reads reads' writes writes' = Rose writes writes'
-HasTapeCause tape answer reads reads' writes writes' = Unit {0}
+-- the cause of an answer that comes after judging the words, with what a fault in reading means
+abbrev pub HasLaterCause : Type 0 → Status → ℕ → ℕ → Type 0
+HasLaterCause Read (status.BadWords at) writes writes' = ⊥
+HasLaterCause Read status.ReadFault writes writes' = Read
+HasLaterCause Read status.WriteFault writes writes' = Rose writes writes'
+HasLaterCause Read answer writes writes' = Unit {0}
 
 -- ---- within the command, where no file is read any more
 

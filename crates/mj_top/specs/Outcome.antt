@@ -1,5 +1,6 @@
 -- What a command answers and writes, for its words and for the bytes held under each name.
-use Rattle.std.specs.Prelude.{◌≡◌, ℕ, Bool, List, length, take, Option, Some, None, option_map, Result, Ok, Err}
+use Rattle.std.specs.Prelude.{◌≡◌, ◌⊎◌, ℕ, ◌+◌, ◌-◌, ◌<◌, Bool, List, length, take, Option, Some, None, option_map, option_and_then, Result, Ok, Err}
+use Rattle.fx_whole.specs.Sums.{sum_ℕ_to}
 use Rattle.mj_types.specs.declared.model.Model.{Model}
 use Rattle.mj_types.specs.declared.range.End.{End}
 use Rattle.mj_types.specs.declared.range.End.TheVariants as finish
@@ -15,7 +16,8 @@ use Rattle.mj_valid.specs.Judging.{told, judged_bytes}
 use Rattle.mj_run.specs.Controls.{controls_at}
 use Rattle.mj_words.specs.declared.table.Command.{Command}
 use Rattle.mj_words.specs.declared.table.Command.TheVariants as command
-use Rattle.mj_words.specs.Words.{bad_place, command_of, model_of, step_count, wants_dual, tape_of, seed_of, link_count}
+use Rattle.mj_words.specs.Words.{bad_place, command_of, model_of, step_count, wants_dual, tape_of, tape_count, nth_tape, seed_of, link_count}
+use Rattle.mj_run.specs.Batch.{tape_at, batch_text, batch_end}
 use Rattle.mj_run.specs.Run.{end_of, trace_text}
 use Rattle.mj_run.specs.Summing.{run_summary_text}
 
@@ -32,9 +34,12 @@ words_refused at = record { status = status.BadWords at; text = words_refusal at
 abbrev pub model_refused : ModelFault → Outcome
 model_refused fault = record { status = status.BadModel fault; text = model_refusal fault }
 
--- the tape, which is the first and only one, is refused
-abbrev pub tape_refused : TapeFault → Outcome
-tape_refused fault = record { status = status.BadTape 1 fault; text = tape_refusal 1 fault }
+-- a tape is refused, by its number
+abbrev pub tape_refused : ℕ → TapeFault → Outcome
+tape_refused number fault = record {
+  status = status.BadTape number fault;
+  text = tape_refusal number fault;
+}
 
 -- a text that ends well
 abbrev pub written : List ℕ → Outcome
@@ -59,7 +64,7 @@ ran wants n m tape = record {
 -- the tape is refused, or the model runs with it
 abbrev pub with_tape : Bool → ℕ → Model → Result TapeValues TapeFault → Outcome
 with_tape wants n m (Ok tape) = ran wants n m (Some tape)
-with_tape wants n m (Err fault) = tape_refused fault
+with_tape wants n m (Err fault) = tape_refused 1 fault
 
 -- how many values the tapes of a command may hold together
 abbrev pub tape_room : ℕ
@@ -86,7 +91,7 @@ summed n m tape = record {
 -- the tape is refused, or the run with it is summed
 abbrev pub with_summed_tape : ℕ → Model → Result TapeValues TapeFault → Outcome
 with_summed_tape n m (Ok tape) = summed n m (Some tape)
-with_summed_tape n m (Err fault) = tape_refused fault
+with_summed_tape n m (Err fault) = tape_refused 1 fault
 
 -- an accepted model of so many links runs n steps with the generated tape
 abbrev pub benched : ℕ → ℕ → ℕ → Model → Outcome
@@ -102,6 +107,60 @@ bench_of seed links n (Err fault) = model_refused fault
 abbrev pub IsBenchOutcome : ℕ → ℕ → ℕ → Outcome → Type 0
 IsBenchOutcome seed links n outcome =
     (judged : Result Model ModelFault) × (told judged ≡ judged_bytes (chain_text seed links)) × (outcome ≡ bench_of seed links n judged)
+
+-- how many values the tapes before tape t hold, which count from 0
+abbrev pub kept_before : List TapeValues → ℕ → ℕ
+kept_before tapes t = sum_ℕ_to t (λ s. length (tape_at tapes s).values)
+
+-- the model runs n steps with each of these tapes; the status is that of the first run that ended early
+abbrev pub batched : ℕ → Model → List TapeValues → Outcome
+batched n m tapes = record {
+  status = status_of (batch_end m n tapes);
+  text = batch_text m n tapes;
+}
+
+-- ---- a batch, by its words and the files that are held
+module _ (held : List ℕ → Option (List ℕ)) (words : List (List ℕ)) (m : Model) where
+  -- the file of tape t is judged so, in the room that the tapes before it leave
+  abbrev pub IsTapeJudged : List TapeValues → ℕ → Result TapeValues TapeFault → Type 0
+  IsTapeJudged tapes t answer =
+      (file : List ℕ) × (option_and_then held (nth_tape words t) ≡ Some file)
+      × (tape_verdict (length m.motors) (step_count words) (tape_room - kept_before tapes t) (take tape_cap file) ≡ answer)
+
+  -- these are the first tapes, each of them accepted
+  abbrev pub AreFirstTapes : List TapeValues → Type 0
+  AreFirstTapes tapes = (t : ℕ) → t < length tapes → IsTapeJudged tapes t (Ok (tape_at tapes t))
+
+  -- all are accepted, and the model runs with each
+  abbrev pub RunsAll : List TapeValues → Outcome → Type 0
+  RunsAll tapes outcome =
+      (length tapes ≡ tape_count words) × (outcome ≡ batched (step_count words) m tapes)
+
+  -- the one after these is refused
+  abbrev pub RefusesNext : List TapeValues → Outcome → Type 0
+  RefusesNext tapes outcome =
+      (fault : TapeFault) × IsTapeJudged tapes (length tapes) (Err fault) × (outcome ≡ tape_refused (length tapes + 1) fault)
+
+  -- of the tapes, in their order
+  abbrev pub IsTapesOutcome : Outcome → Type 0
+  IsTapesOutcome outcome =
+      (tapes : List TapeValues) × AreFirstTapes tapes × (RunsAll tapes outcome ⊎ RefusesNext tapes outcome)
+
+module _ (held : List ℕ → Option (List ℕ)) (words : List (List ℕ)) where
+  -- the model is refused, or accepted, and then the tapes are judged
+  abbrev pub IsTapesOutcomeOf : Result Model ModelFault → Outcome → Type 0
+  IsTapesOutcomeOf (Ok m) outcome = IsTapesOutcome held words m outcome
+  IsTapesOutcomeOf (Err fault) outcome = outcome ≡ model_refused fault
+
+  -- of what the bytes of the model's file are judged to be
+  abbrev pub IsBatchFileOutcome : List ℕ → Outcome → Type 0
+  IsBatchFileOutcome bytes outcome =
+      (judged : Result Model ModelFault) × (told judged ≡ judged_bytes bytes) × IsTapesOutcomeOf judged outcome
+
+  -- `batch`: of the model's file
+  abbrev pub IsBatchOutcome : Outcome → Type 0
+  IsBatchOutcome outcome =
+      (file : List ℕ) × (held (model_of words) ≡ Some file) × IsBatchFileOutcome (take model_cap file) outcome
 
 module _ (held : List ℕ → Option (List ℕ)) where
   -- no tape is named, or its file is read; none where nothing is held under that name
@@ -131,6 +190,7 @@ module _ (held : List ℕ → Option (List ℕ)) where
   IsCommandOutcome command.Gen words outcome = outcome ≡ generated (seed_of words) (link_count words)
   IsCommandOutcome command.Bench words outcome =
       IsBenchOutcome (seed_of words) (link_count words) (step_count words) outcome
+  IsCommandOutcome command.Batch words outcome = IsBatchOutcome held words outcome
 
   -- the words are refused, or do what their command does
   abbrev pub IsWordsOutcome : List (List ℕ) → Option ℕ → Outcome → Type 0

@@ -81,7 +81,7 @@ fn sum_tape_text<S: Sink>(
         Ok(tape) => sum_model(alloc, sink, model, &Controls::Taped(tape), steps),
         Err(fault) => match fault {
             TapeFault::Memory => Status::Memory,
-            _ => refuse_tape(sink, fault),
+            _ => refuse_tape(sink, 1, fault),
         },
     }
 }

@@ -1,6 +1,7 @@
 // Runs through the top call, with their exact bytes.
 ghost use Rattle.std.specs.Prelude.{◌≤◌};
 
+mod batches;
 mod generated;
 mod humanoid;
 mod models;

@@ -12,9 +12,11 @@ ghost use Rattle.mj_run.specs.Controls.{tape_of as taped, Serves};
 ghost use Rattle.mj_words.specs.Words as command;
 ghost use Rattle.mj_run.specs.Run.{start, state_at};
 ghost use Rattle.mj_top.specs.Outcome as spec;
-ghost use Rattle.mj_top.specs.Ends.{Answers, WritesNothing, HasCause, Completes, HasTapeCause, AreModel, IsMeant, Ends, EndsOrMemory, unless_failed};
+ghost use Rattle.mj_top.specs.Ends.{Answers, WritesNothing, HasCause, Completes, HasLaterCause, TapeRose, AreModel, IsMeant, Ends, EndsOrMemory, unless_failed};
 
+use crate::batch::batch;
 use crate::bench::bench;
+use mj_fan::{Gate, NoGate};
 use mj_gen::chain_model;
 use mj_io::{Cabinet, CabinetFault, Failed, NoMemory, Page, Sink, finish, send};
 use mj_run::{Controls, Runner, send_run};
@@ -31,10 +33,10 @@ use std::alloc::Global;
 use std::thread::Threads;
 
 /// A model's file is read with one byte more than its limit.
-const MODEL_CAP: usize = 1_048_577;
+pub(crate) const MODEL_CAP: usize = 1_048_577;
 
 /// A tape's file is read with one byte more than its limit.
-const TAPE_CAP: usize = 67_108_865;
+pub(crate) const TAPE_CAP: usize = 67_108_865;
 
 /// How many values the tapes of a command may hold together.
 pub(crate) const TAPE_ROOM: usize = 4_000_000;
@@ -79,14 +81,20 @@ pub(crate) fn refuse_model<S: Sink>(sink: &mut S, fault: ModelFault) -> Status
     answered(written, Status::BadModel(fault))
 }
 
-// A refused tape.
-pub(crate) fn refuse_tape<S: Sink>(sink: &mut S, fault: TapeFault) -> Status
-    ensures { Ends S.holds S.faults (spec.tape_refused fault) sink.old result sink.new }
+// A refused tape, by its number.
+pub(crate) fn refuse_tape<S: Sink>(sink: &mut S, number: usize, fault: TapeFault) -> Status
+    ensures { Ends S.holds S.faults (spec.tape_refused number fault) sink.old result sink.new }
 {
     let mut page = Page::new();
-    send_tape_refusal(sink, &mut page, 1, fault);
+    send_tape_refusal(sink, &mut page, number, fault);
     let written = finish(sink, &mut page);
-    answered(written, Status::BadTape { tape: 1, fault })
+    answered(
+        written,
+        Status::BadTape {
+            tape: number,
+            fault,
+        },
+    )
 }
 
 // A run in the room that was made for it.
@@ -174,7 +182,7 @@ fn run_tape_file<S: Sink>(
         Ok(tape) => run_model(alloc, sink, model, &Controls::Taped(tape), steps, wants),
         Err(fault) => match fault {
             TapeFault::Memory => Status::Memory,
-            _ => refuse_tape(sink, fault),
+            _ => refuse_tape(sink, 1, fault),
         },
     }
 }
@@ -194,8 +202,9 @@ fn run_with_tape<C: Cabinet, S: Sink>(
         (command.tape_of (map string_bytes words.now)) ≡ Some o) result (S.holds sink.old)
         (S.holds sink.new) }
     ensures nothing { WritesNothing result (S.holds sink.old) (S.holds sink.new) }
-    ensures cause { HasTapeCause (command.tape_of (map string_bytes words.now)) result
-        (C.faults cabinet.old) (C.faults cabinet.new) (S.faults sink.old) (S.faults sink.new) }
+    ensures cause { HasLaterCause (TapeRose (command.tape_of (map string_bytes words.now))
+        (C.faults cabinet.old) (C.faults cabinet.new)) result (S.faults sink.old)
+        (S.faults sink.new) }
 {
     let steps = step_count(words);
     let wants = wants_dual(words);
@@ -224,8 +233,9 @@ fn run_model_file<C: Cabinet, S: Sink>(
         (command.tape_of (map string_bytes words.now)) bytes.now) result
         (S.holds sink.old) (S.holds sink.new) }
     ensures nothing { WritesNothing result (S.holds sink.old) (S.holds sink.new) }
-    ensures cause { HasTapeCause (command.tape_of (map string_bytes words.now)) result
-        (C.faults cabinet.old) (C.faults cabinet.new) (S.faults sink.old) (S.faults sink.new) }
+    ensures cause { HasLaterCause (TapeRose (command.tape_of (map string_bytes words.now))
+        (C.faults cabinet.old) (C.faults cabinet.new)) result (S.faults sink.old)
+        (S.faults sink.new) }
     ensures accepted { result ≡ Status.ReadFault → AreModel bytes.now }
 {
     match judge(alloc, bytes) {
@@ -286,11 +296,13 @@ fn run_files<C: Cabinet, S: Sink>(
 }
 
 // Words that are accepted.
-fn run_accepted<C: Cabinet, S: Sink>(
+fn run_accepted<R: Threads + Sync, C: Cabinet, S: Sink, G: Gate>(
+    rt: &R,
     alloc: Global,
     words: &[String],
     cabinet: &mut C,
     sink: &mut S,
+    gate: &G,
 ) -> Status
     requires { command.bad_place (map string_bytes words.now) ≡ None }
     ensures outcome { IsTrue (C.tells cabinet.old) →
@@ -311,12 +323,15 @@ fn run_accepted<C: Cabinet, S: Sink>(
             bench_link_count(words),
             bench_step_count(words),
         ),
+        Command::Batch => batch(rt, alloc, words, cabinet, sink, gate),
     }
 }
 
 /// Does what the words' command does, and writes its text, or the one line of a refusal, to the sink:
 /// `run` reads a model from the cabinet, runs it and writes the trace; `gen` writes a generated model;
-/// `bench` runs one with a generated tape and writes the summary.
+/// `bench` runs one with a generated tape and writes the summary; `batch` runs a model with each of
+/// several tapes by as many threads as the words let work, and writes their summaries. In a batch the
+/// gate is called ahead of each tape's run with the tape's number, in the thread that runs it.
 ///
 /// `outcome`: where the cabinet tells, the answer and what the sink gains are those of the outcome for
 /// these words and files, but for `ReadFault`, `WriteFault` and `Memory`. `nothing`: after `ReadFault`
@@ -327,12 +342,13 @@ fn run_accepted<C: Cabinet, S: Sink>(
 /// equation of motion. `certified`: in every step of every run the printed forces are feasible, every
 /// feasible rational force costs at least the printed bound in the dual of the state that the step starts
 /// from, and every one that costs no more than the printed forces lies in the printed box.
-pub fn run_words<R: Threads + Sync, C: Cabinet, S: Sink>(
-    _rt: &R,
+pub fn run_gated<R: Threads + Sync, C: Cabinet, S: Sink, G: Gate>(
+    rt: &R,
     alloc: Global,
     words: &[String],
     cabinet: &mut C,
     sink: &mut S,
+    gate: &G,
 ) -> Status
     ensures outcome { IsTrue (C.tells cabinet.old) →
         Answers (spec.IsOutcome (map string_bytes words.now) (C.holds cabinet.old)) result
@@ -357,6 +373,36 @@ pub fn run_words<R: Threads + Sync, C: Cabinet, S: Sink>(
     steps_are_certified();
     match bad_place(words) {
         Some(at) => refuse_words(sink, at),
-        None => run_accepted(alloc, words, cabinet, sink),
+        None => run_accepted(rt, alloc, words, cabinet, sink, gate),
     }
+}
+
+/// The same with a gate that does nothing: what the program does.
+pub fn run_words<R: Threads + Sync, C: Cabinet, S: Sink>(
+    rt: &R,
+    alloc: Global,
+    words: &[String],
+    cabinet: &mut C,
+    sink: &mut S,
+) -> Status
+    ensures outcome { IsTrue (C.tells cabinet.old) →
+        Answers (spec.IsOutcome (map string_bytes words.now) (C.holds cabinet.old)) result
+        (S.holds sink.old) (S.holds sink.new) }
+    ensures nothing { WritesNothing result (S.holds sink.old) (S.holds sink.new) }
+    ensures refused { ForSome (command.bad_place (map string_bytes words.now))
+        (λ at. Answers (λ o. o ≡ spec.words_refused at) result (S.holds sink.old)
+        (S.holds sink.new)) }
+    ensures cause { HasCause (map string_bytes words.now) (C.tells cabinet.old)
+        (C.holds cabinet.old) result (C.faults cabinet.old) (C.faults cabinet.new)
+        (S.faults sink.old) (S.faults sink.new) }
+    ensures complete { IsTrue (C.tells cabinet.old) →
+        Completes (map string_bytes words.now) (C.tells cabinet.old)
+        (C.holds cabinet.old) result (C.faults cabinet.old) (C.faults cabinet.new)
+        (S.faults sink.old) (S.faults sink.new) }
+    ensures covered { (model : Model) (controls : ℕ → List Control) (k : ℕ)
+        → IsCovered model (state_at model controls k) (controls k) }
+    ensures certified { (model : Model) (controls : ℕ → List Control) (k : ℕ)
+        → IsCertified model (state_at model controls k) (controls k) }
+{
+    run_gated(rt, alloc, words, cabinet, sink, &NoGate)
 }

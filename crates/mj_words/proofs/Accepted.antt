@@ -15,7 +15,7 @@ use Rattle.mj_words.specs.declared.table.Name.TheVariants as named
 use Rattle.mj_words.specs.Table.{command_named, text_of, all_names, rule, rule_of}
 use Rattle.mj_words.specs.Words.{word, name, value, name_count, value_count, command_of, given, unless, bad_command, stood_before, bad_name, bad_names, value_missing, bad_value, bad_values, is_served, name_missing, past_end, bad_pairs, bad_place, name_place, value_place}
 use Rattle.mj_words.specs.Accepted.{AreAccepted, AcceptedHaveNoBadPlace}
-use Rattle.mj_words.proofs.Counts.{stand_within}
+use Rattle.mj_words.proofs.Counts.{first-some, last-some, stand_within}
 
 -- ---- tests
 
@@ -72,6 +72,7 @@ each p all named.Tape = all.1.1.0
 each p all named.Dual = all.1.1.1.0
 each p all named.Links = all.1.1.1.1.0
 each p all named.Seed = all.1.1.1.1.1.0
+each p all named.Workers = all.1.1.1.1.1.1.0
 
 -- ---- what is given under a name
 
@@ -89,14 +90,6 @@ module _ (names values : ℕ → List ℕ) (text : List ℕ) where
   gives-from_find : (n : ℕ) → is_some (find n) ≡ true → (j : ℕ) × (j < n) × (names j ≡ text)
   gives-from_find zero h = absurd cc
   gives-from_find (suc n) h = gives-later n (find n) refl (bytes_eq (names n) text) refl (gives-from_find n) h
-
-  first-some : (o : Option (List ℕ)) (later : Option (List ℕ)) → is_some o ≡ true → is_some (or_first o later) ≡ true
-  first-some (Some x) later h = refl
-  first-some None later h = absurd cc
-
-  last-some : (o : Option (List ℕ)) (x : List ℕ) → is_some (or_first o (Some x)) ≡ true
-  last-some (Some y) x = refl
-  last-some None x = refl
 
   find-from_gives : (n j : ℕ) → j < n → names j ≡ text → is_some (find n) ≡ true
   find-from_gives zero j l e = absurd (omega (arith, l))

@@ -15,7 +15,7 @@ use Rattle.mj_words.specs.declared.table.Rule.{Rule}
 -- the command that a text is
 abbrev pub command_named : List ℕ → Option Command
 command_named text =
-    cond (bytes_eq text (codes "run")) (Some command.Run) (cond (bytes_eq text (codes "gen")) (Some command.Gen) (cond (bytes_eq text (codes "bench")) (Some command.Bench) None))
+    cond (bytes_eq text (codes "run")) (Some command.Run) (cond (bytes_eq text (codes "gen")) (Some command.Gen) (cond (bytes_eq text (codes "bench")) (Some command.Bench) (cond (bytes_eq text (codes "batch")) (Some command.Batch) None)))
 
 -- the text of a name
 abbrev pub text_of : Name → List ℕ
@@ -25,9 +25,10 @@ text_of name.Tape = codes "--tape"
 text_of name.Dual = codes "--dual"
 text_of name.Links = codes "--links"
 text_of name.Seed = codes "--seed"
+text_of name.Workers = codes "--workers"
 
 abbrev pub all_names : List Name
-all_names = name.Model ∷ name.Steps ∷ name.Tape ∷ name.Dual ∷ name.Links ∷ name.Seed ∷ []
+all_names = name.Model ∷ name.Steps ∷ name.Tape ∷ name.Dual ∷ name.Links ∷ name.Seed ∷ name.Workers ∷ []
 
 -- the name that a text is
 abbrev pub name_of : List ℕ → Option Name
@@ -38,6 +39,10 @@ name_of text = find (λ n. bytes_eq text (text_of n)) all_names
 -- a name that must stand, once
 abbrev pub required : Form → Rule
 required form = record { times = 1; required = true; form = form }
+
+-- a name that must stand, and may so often
+abbrev pub repeated : ℕ → Form → Rule
+repeated times form = record { times = times; required = true; form = form }
 
 -- a name that may stand, once
 abbrev pub optional : Form → Rule
@@ -72,10 +77,18 @@ bench_rule name.Seed = required (form.Number 0 4294967295)
 bench_rule name.Steps = required (form.Number 0 10000)
 bench_rule other = foreign
 
+abbrev pub batch_rule : Name → Rule
+batch_rule name.Model = required form.FileName
+batch_rule name.Steps = required (form.Number 0 1000000)
+batch_rule name.Tape = repeated 64 form.FileName
+batch_rule name.Workers = required (form.Number 1 64)
+batch_rule other = foreign
+
 abbrev pub rule : Command → Name → Rule
 rule command.Run name = run_rule name
 rule command.Gen name = gen_rule name
 rule command.Bench name = bench_rule name
+rule command.Batch name = batch_rule name
 
 -- the rule for a text in a name's place
 abbrev pub rule_from : Command → Option Name → Rule

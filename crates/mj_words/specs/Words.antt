@@ -1,7 +1,7 @@
 -- The words after the program's name: a command, then pairs of a name and a value in any order.
 -- Which words are accepted, and else the first bad place, counted from 1. A format of this
 -- project's own.
-use Rattle.std.specs.Prelude.{ℕ, ◌+◌, ◌-◌, ◌*◌, ◌/◌, Bool, ◌&&◌, ◌||◌, not, ◌==◌, nat_le, nat_lt, cond, List, [], length, slice_index_or, Option, Some, None, is_some, unwrap_or, option_and_then, codes}
+use Rattle.std.specs.Prelude.{ℕ, ◌+◌, ◌-◌, ◌*◌, ◌/◌, Bool, ◌&&◌, ◌||◌, not, ◌==◌, nat_le, nat_lt, max, cond, List, [], length, slice_index_or, Option, Some, None, is_some, unwrap_or, option_and_then, codes}
 use Rattle.std.specs.List.{list_all}
 use Rattle.std.specs.Str.{bytes_eq}
 use Rattle.fx_whole.specs.Counting.{count_to}
@@ -167,3 +167,7 @@ link_count words = number_under words named.Links
 
 abbrev pub seed_of : List (List ℕ) → ℕ
 seed_of words = number_under words named.Seed
+
+-- the threads of a batch
+abbrev pub worker_count : List (List ℕ) → ℕ
+worker_count words = max (number_under words named.Workers) 1

@@ -11,6 +11,8 @@ pub enum Command {
     Gen,
     /// A generated model runs with a generated tape, and its steps are summed.
     Bench,
+    /// A model runs with each of several tapes, and the steps of each run are summed.
+    Batch,
 }
 
 /// A name, after which a value stands.
@@ -28,6 +30,8 @@ pub enum Name {
     Links,
     /// What a generated model is drawn from.
     Seed,
+    /// How many threads work at most.
+    Workers,
 }
 
 /// What values a name takes.
@@ -63,6 +67,8 @@ impl Command {
             Some(Command::Gen)
         } else if text == "bench" {
             Some(Command::Bench)
+        } else if text == "batch" {
+            Some(Command::Batch)
         } else {
             None
         }
@@ -76,6 +82,7 @@ impl Command {
             Command::Run => run_rule(name),
             Command::Gen => gen_rule(name),
             Command::Bench => bench_rule(name),
+            Command::Batch => batch_rule(name),
         }
     }
 
@@ -102,6 +109,7 @@ impl Name {
             Name::Dual => "--dual",
             Name::Links => "--links",
             Name::Seed => "--seed",
+            Name::Workers => "--workers",
         }
     }
 
@@ -121,6 +129,8 @@ impl Name {
             Some(Name::Links)
         } else if text == "--seed" {
             Some(Name::Seed)
+        } else if text == "--workers" {
+            Some(Name::Workers)
         } else {
             None
         }
@@ -133,6 +143,17 @@ fn required(form: Form) -> Rule
 {
     Rule {
         times: 1,
+        required: true,
+        form,
+    }
+}
+
+// A name that must stand, and may so often.
+fn repeated(times: usize, form: Form) -> Rule
+    ensures { result ≡ spec.repeated times form }
+{
+    Rule {
+        times,
         required: true,
         form,
     }
@@ -201,6 +222,21 @@ fn bench_rule(name: Name) -> Rule
             least: 0,
             most: 10_000,
         }),
+        _ => foreign(),
+    }
+}
+
+fn batch_rule(name: Name) -> Rule
+    ensures { result ≡ spec.batch_rule name }
+{
+    match name {
+        Name::Model => required(Form::FileName),
+        Name::Steps => required(Form::Number {
+            least: 0,
+            most: 1_000_000,
+        }),
+        Name::Tape => repeated(64, Form::FileName),
+        Name::Workers => required(Form::Number { least: 1, most: 64 }),
         _ => foreign(),
     }
 }

@@ -1,5 +1,5 @@
 // Words, with their first bad places.
-use super::{accepted_words_have_no_bad_place, bad_place};
+use super::{accepted_words_have_no_bad_place, bad_place, tape_count};
 use std::alloc::{AllocError, Global};
 use std::test::Fail;
 
@@ -46,6 +46,25 @@ fn the_first_bad_word_is_named(rt: HostRuntime) -> Result<(), Fail> {
             ["bench", "--links", "1", "--seed", "7", "--steps", "10001"].as_slice(),
             7,
         ),
+        (
+            [
+                "batch",
+                "--model",
+                "a",
+                "--steps",
+                "1",
+                "--tape",
+                "t",
+                "--workers",
+                "0",
+            ]
+            .as_slice(),
+            9,
+        ),
+        (
+            ["batch", "--model", "a", "--steps", "1", "--workers", "1"].as_slice(),
+            8,
+        ),
     ] {
         assert_eq!(rt; place_of(rt.alloc(), texts)?, Some(at));
     }
@@ -64,6 +83,28 @@ fn good_words_have_no_bad_place(rt: HostRuntime) -> Result<(), Fail> {
     ] {
         assert_eq!(rt; place_of(rt.alloc(), texts)?, None);
     }
+    Ok(())
+}
+
+// Words of a batch with so many tapes.
+fn batch_of(alloc: Global, tapes: usize) -> Result<Vec<String>, Fail> {
+    let mut words = words_of(
+        alloc,
+        &["batch", "--model", "a", "--steps", "1", "--workers", "1"],
+    )?;
+    for _ in 0..tapes {
+        words.push(String::from_str(alloc, "--tape")?)?;
+        words.push(String::from_str(alloc, "t")?)?;
+    }
+    Ok(words)
+}
+
+#[test]
+fn a_batch_has_sixty_four_tapes_at_most(rt: HostRuntime) -> Result<(), Fail> {
+    let alloc = rt.alloc();
+    assert_eq!(rt; bad_place(batch_of(alloc, 64)?.as_slice()), None);
+    assert_eq!(rt; bad_place(batch_of(alloc, 65)?.as_slice()), Some(136));
+    assert_eq!(rt; tape_count(batch_of(alloc, 64)?.as_slice()), 64);
     Ok(())
 }
 

@@ -1,5 +1,5 @@
 // Judging the words after the program's name. It takes no memory.
-ghost use Rattle.std.specs.Prelude.{◌≡◌, ◌+◌, ◌*◌, ◌<◌, ◌≤◌, ◌^◌, map, length, None, IfSome, option_map, string_bytes};
+ghost use Rattle.std.specs.Prelude.{◌≡◌, ◌+◌, ◌*◌, ◌<◌, ◌≤◌, ◌^◌, map, length, max, None, Some, IfSome, option_map, string_bytes};
 ghost use Rattle.std.specs.List.{list_all};
 ghost use Rattle.fx_whole.specs.Counting.{count_to};
 ghost use Rattle.mj_words.specs.Accepted.{AcceptedHaveNoBadPlace};
@@ -170,6 +170,7 @@ fn are_served(command: Command, words: &[String]) -> bool
         && is_served(command, words, Name::Dual)
         && is_served(command, words, Name::Links)
         && is_served(command, words, Name::Seed)
+        && is_served(command, words, Name::Workers)
 }
 
 fn name_missing(command: Command, words: &[String]) -> Option<usize>
@@ -282,9 +283,11 @@ fn all_tapes(words: &[String]) -> usize
     tapes_before(words, words.len().saturating_sub(1) / 2)
 }
 
-/// How many tapes the words name.
+/// How many tapes the words name: those of an accepted batch 64 at most.
 pub fn tape_count(words: &[String]) -> usize
     ensures value { result ≡ spec.tape_count (map string_bytes words.now) }
+    ensures few { spec.bad_place (map string_bytes words.now) ≡ None
+        → spec.command_of (map string_bytes words.now) ≡ Command.Batch → result ≤ 64 }
 {
     all_tapes(words)
 }
@@ -299,6 +302,17 @@ pub fn nth_tape(words: &[String], k: usize) -> Option<&str>
         }
     }
     None
+}
+
+/// The name of the file of tape `k`, counted from 0, of those that the words name.
+pub fn tape_name(words: &[String], k: usize) -> &str
+    requires { k < spec.tape_count (map string_bytes words.now) }
+    ensures { spec.nth_tape (map string_bytes words.now) k ≡ Some result.now }
+{
+    match nth_tape(words, k) {
+        Some(name) => name,
+        None => "",
+    }
 }
 
 /// Whether accepted words ask for each step's dual.
@@ -338,6 +352,14 @@ pub fn bench_link_count(words: &[String]) -> u32
     ensures few { result ≤ 64 }
 {
     number_under(words, Name::Links)
+}
+
+/// How many threads accepted words let work, at least one.
+pub fn worker_count(words: &[String]) -> usize
+    ensures value { result ≡ spec.worker_count (map string_bytes words.now) }
+    ensures some { 1 ≤ result }
+{
+    (number_under(words, Name::Workers) as usize).max(1)
 }
 
 /// No word is bad exactly where the words are accepted: a command, and after it pairs of a name and a

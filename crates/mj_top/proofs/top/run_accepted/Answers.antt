@@ -2,7 +2,7 @@ use Rattle.std.proofs.Common.{◌≡◌, ◌∙◌, ℕ, map, string_bytes, sym,
 use Rattle.mj_words.specs.declared.table.Command.TheVariants as command
 use Rattle.mj_words.specs.Words.{seed_of, link_count}
 use Rattle.mj_top.specs.Outcome.{Outcome, IsOutcome, IsBenchOutcome, generated}
-use Rattle.mj_top.proofs.Endings.{answers-from_either, nothing-from_either, tape_cause-from_either, cause-from_tape, none-rose, outcome-is, answers-within, answers-from_meant, nothing-from_meant, tape_cause-from_meant, bench-later}
+use Rattle.mj_top.proofs.Endings.{answers-from_either, nothing-from_either, later_cause-from_either, cause-from_later, outcome-is, answers-within, answers-from_meant, nothing-from_meant, later_cause-from_meant, bench-later}
 use Rattle.mj_top.proofs.top.run_accepted.Goals as goal
 
 pub returns-in-Gen : goal.returns-in-Gen
@@ -20,9 +20,9 @@ returns-in-Gen g c =
     record {
       outcome = λ told. answers-from_either g.S.Sink.holds g.S.Sink.faults before after (IsOutcome words held) outcome c.generate.result meant c.generate.ensures;
       nothing = nothing-from_either g.S.Sink.holds g.S.Sink.faults before after outcome c.generate.result c.generate.ensures;
-      cause = cause-from_tape words tells held None c.generate.result counts counts (g.S.Sink.faults before) (g.S.Sink.faults after) c.requires
-          (λ rose e. none-rose counts counts rose)
-          (tape_cause-from_either g.S.Sink.holds g.S.Sink.faults before after None outcome c.generate.result counts counts tt c.generate.ensures);
+      cause = cause-from_later words tells held ⊥ c.generate.result counts counts (g.S.Sink.faults before) (g.S.Sink.faults after) c.requires
+          (λ rose e. absurd rose)
+          (later_cause-from_either g.S.Sink.holds g.S.Sink.faults before after ⊥ outcome c.generate.result tt c.generate.ensures);
     }
 
 pub returns-in-Bench : goal.returns-in-Bench
@@ -47,7 +47,7 @@ returns-in-Bench g c =
       outcome = λ told. answers-within (IsBenchOutcome seed links n) (IsOutcome words held) c.bench.result _ _ within
           (answers-from_meant g.S.Sink.holds g.S.Sink.faults before after (IsBenchOutcome seed links n) c.bench.result c.bench.ensures);
       nothing = nothing-from_meant g.S.Sink.holds g.S.Sink.faults before after (IsBenchOutcome seed links n) c.bench.result c.bench.ensures;
-      cause = cause-from_tape words tells held None c.bench.result counts counts (g.S.Sink.faults before) (g.S.Sink.faults after) c.requires
-          (λ rose e. none-rose counts counts rose)
-          (tape_cause-from_meant g.S.Sink.holds g.S.Sink.faults before after (IsBenchOutcome seed links n) c.bench.result None counts counts (bench-later seed links n) c.bench.ensures);
+      cause = cause-from_later words tells held ⊥ c.bench.result counts counts (g.S.Sink.faults before) (g.S.Sink.faults after) c.requires
+          (λ rose e. absurd rose)
+          (later_cause-from_meant g.S.Sink.holds g.S.Sink.faults before after (IsBenchOutcome seed links n) c.bench.result ⊥ (bench-later seed links n) c.bench.ensures);
     }

@@ -1,10 +1,10 @@
 use Rattle.std.proofs.Common.{◌∙◌, map, string_bytes, sym, ap, inr, IsTrue, Bool, subst, List, ℕ}
-use Rattle.mj_io.proofs.Faults.{Rose-after}
 use Rattle.mj_io.proofs.Growth.{Gives-held}
 use Rattle.mj_valid.specs.Judging.{judged_bytes}
 use Rattle.mj_words.specs.Words.{wants_dual, step_count, tape_of}
 use Rattle.mj_top.specs.Outcome.{IsFileOutcome, IsOutcome, model_cap}
-use Rattle.mj_top.proofs.Endings.{answers-within, file_outcome-is, run_read-rose, cause-from_tape, tape_cause-earlier}
+use Rattle.mj_top.specs.Ends.{TapeRose}
+use Rattle.mj_top.proofs.Endings.{answers-within, file_outcome-is, run_read-rose, cause-from_later, tape_rose-earlier}
 use Rattle.mj_top.proofs.top.run_files.Goals as goal
 
 pub returns-in-Ok : goal.returns-in-Ok
@@ -21,7 +21,6 @@ returns-in-Ok g c =
     let given = λ (tells : IsTrue (g.C.Cabinet.tells c.args.cabinet.now)). Gives-held (held c.model_of.result.now) model_cap c.in-Ok.bytes.items (c.in-Ok.ensures.gives tells) in
     let file = λ (tells : IsTrue (g.C.Cabinet.tells c.args.cabinet.now)). ap held (sym c.model_of.ensures) ∙ (given tells).1 in
     let bytes = λ (tells : IsTrue (g.C.Cabinet.tells c.args.cabinet.now)). c.as_slice.ensures.value ∙ (given tells).2 in
-    let lower = λ (n : List ℕ). Rose-after (reads n) (between n) (reads_after n) (c.in-Ok.ensures.later n) in
     record {
       outcome = λ tells.
           let still = let P = λ (b : Bool). IsTrue b in subst P (sym c.in-Ok.ensures.tells_on) tells in
@@ -29,12 +28,12 @@ returns-in-Ok g c =
           (file_outcome-is words held held_on (given tells).0 c.as_slice.result.now c.requires.good c.requires.run c.in-Ok.ensures.holds_on (file tells) (bytes tells))
           (c.run_model_file.ensures.outcome still);
       nothing = c.run_model_file.ensures.nothing;
-      cause = cause-from_tape words (g.C.Cabinet.tells c.args.cabinet.now) held (tape_of words) answer reads reads_after writes writes_after c.requires.good
+      cause = cause-from_later words (g.C.Cabinet.tells c.args.cabinet.now) held (TapeRose (tape_of words) between reads_after) answer reads reads_after writes writes_after c.requires.good
           (λ rose e. run_read-rose words (g.C.Cabinet.tells c.args.cabinet.now) held reads reads_after c.requires.run (inr (
-            rose,
+            tape_rose-earlier (tape_of words) reads between reads_after c.in-Ok.ensures.later rose,
             λ tells.
                 let accepted = c.run_model_file.ensures.accepted e in
                 ((given tells).0, file tells, (accepted.0, ap judged_bytes (sym (bytes tells)) ∙ accepted.1)),
           )))
-          (tape_cause-earlier (tape_of words) answer reads between reads_after writes writes_after lower c.run_model_file.ensures.cause);
+          c.run_model_file.ensures.cause;
     }

@@ -5,8 +5,8 @@ use Rattle.mj_types.specs.declared.status.Status.{Status}
 use Rattle.mj_valid.specs.Judging.{accepted_of, judged_bytes}
 use Rattle.mj_words.specs.Words.{step_count, wants_dual, tape_of}
 use Rattle.mj_top.specs.Outcome.{Outcome, IsFileOutcome, with_tape_name, model_refused}
-use Rattle.mj_top.specs.Ends.{Ends}
-use Rattle.mj_top.proofs.Endings.{answers-within, answers-from_ends, nothing-from_ends, tape_cause-from_ends}
+use Rattle.mj_top.specs.Ends.{Ends, TapeRose}
+use Rattle.mj_top.proofs.Endings.{answers-within, answers-from_ends, nothing-from_ends, later_cause-from_ends}
 use Rattle.mj_top.proofs.top.run_model_file.Goals as goal
 
 pub returns-in-Ok : goal.returns-in-Ok
@@ -39,6 +39,6 @@ returns-in_default g c =
     record {
       outcome = λ tells. answers-from_ends g.S.Sink.holds g.S.Sink.faults before after (IsFileOutcome held (wants_dual words) (step_count words) (tape_of words) bytes) outcome c.refuse_model.result (Err fault, sym judged, refl) c.refuse_model.ensures;
       nothing = nothing-from_ends g.S.Sink.holds g.S.Sink.faults before after outcome c.refuse_model.result c.refuse_model.ensures;
-      cause = tape_cause-from_ends g.S.Sink.holds g.S.Sink.faults before after (tape_of words) outcome c.refuse_model.result counts counts tt c.refuse_model.ensures;
+      cause = later_cause-from_ends g.S.Sink.holds g.S.Sink.faults before after (TapeRose (tape_of words) counts counts) outcome c.refuse_model.result tt c.refuse_model.ensures;
       accepted = λ e. let P = λ (s : Status). Ends g.S.Sink.holds g.S.Sink.faults outcome before s after in absurd (subst P e c.refuse_model.ensures);
     }

@@ -5,7 +5,8 @@ use Rattle.mj_run.specs.Controls.{controls_at}
 use Rattle.mj_words.specs.Words.{step_count, wants_dual, tape_of}
 use Rattle.mj_run.specs.Run.{end_of}
 use Rattle.mj_top.specs.Outcome.{Outcome, ran, with_tape, with_tape_name, with_tape_file, tape_room, tape_cap}
-use Rattle.mj_top.proofs.Endings.{answers-from_either, nothing-from_either, tape_cause-from_either, later-status_of, later-with_tape}
+use Rattle.mj_top.specs.Ends.{TapeRose}
+use Rattle.mj_top.proofs.Endings.{answers-from_either, nothing-from_either, later_cause-from_either, later-status_of, later-with_tape}
 use Rattle.mj_top.proofs.top.run_with_tape.Goals as goal
 
 pub returns-in-None : goal.returns-in-None
@@ -24,7 +25,7 @@ returns-in-None g c =
       outcome = λ tells. answers-from_either g.S.Sink.holds g.S.Sink.faults c.args.sink.now c.run_at_rest.new.sink
           (λ (o : Outcome). with_tape_name held (wants_dual words) (step_count words) m (tape_of words) ≡ Some o) outcome c.run_at_rest.result found c.run_at_rest.ensures;
       nothing = nothing-from_either g.S.Sink.holds g.S.Sink.faults c.args.sink.now c.run_at_rest.new.sink outcome c.run_at_rest.result c.run_at_rest.ensures;
-      cause = tape_cause-from_either g.S.Sink.holds g.S.Sink.faults c.args.sink.now c.run_at_rest.new.sink (tape_of words) outcome c.run_at_rest.result counts counts
+      cause = later_cause-from_either g.S.Sink.holds g.S.Sink.faults c.args.sink.now c.run_at_rest.new.sink (TapeRose (tape_of words) counts counts) outcome c.run_at_rest.result
           (later-status_of (end_of m (controls_at (length m.motors) None) steps)) c.run_at_rest.ensures;
     }
 
@@ -49,6 +50,6 @@ returns-in-Ok g c =
           answers-from_either g.S.Sink.holds g.S.Sink.faults c.args.sink.now c.run_tape_file.new.sink
           (λ (o : Outcome). with_tape_name held (wants_dual words) (step_count words) m (tape_of words) ≡ Some o) outcome c.run_tape_file.result found c.run_tape_file.ensures;
       nothing = nothing-from_either g.S.Sink.holds g.S.Sink.faults c.args.sink.now c.run_tape_file.new.sink outcome c.run_tape_file.result c.run_tape_file.ensures;
-      cause = tape_cause-from_either g.S.Sink.holds g.S.Sink.faults c.args.sink.now c.run_tape_file.new.sink (tape_of words) outcome c.run_tape_file.result
-          (g.C.Cabinet.faults c.args.cabinet.now) (g.C.Cabinet.faults c.read.new.self) (later-with_tape wants steps m answer) c.run_tape_file.ensures;
+      cause = later_cause-from_either g.S.Sink.holds g.S.Sink.faults c.args.sink.now c.run_tape_file.new.sink
+          (TapeRose (tape_of words) (g.C.Cabinet.faults c.args.cabinet.now) (g.C.Cabinet.faults c.read.new.self)) outcome c.run_tape_file.result (later-with_tape wants steps m answer) c.run_tape_file.ensures;
     }
