@@ -1,4 +1,5 @@
 // The numbers of a report, worked by hand.
+use crate::Work;
 use crate::report::{copy_into, difference, largest_bias_radius, largest_in_mass};
 use fx_list::Array;
 use fx_num::{Fix, Number};
@@ -33,4 +34,15 @@ fn a_load_is_the_applied_force_less_the_bias(rt: HostRuntime) -> Result<(), Fail
     assert_eq!(rt; to.at(0), Fix::<32>::from_raw(4));
     assert_eq!(rt; to.at(1), Fix::<32>::from_raw(-4));
     Ok(())
+}
+
+// Whether values of a type can be sent to another thread and shared with it: a type for which they
+// can't is refused here.
+fn is_shared<T: Send + Sync>() -> bool {
+    true
+}
+
+#[test]
+fn a_workspace_can_be_sent_and_shared(rt: HostRuntime) {
+    assert!(rt; is_shared::<Work>());
 }
