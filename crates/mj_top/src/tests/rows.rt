@@ -1,11 +1,5 @@
 // Runs with constraint rows: limits, contacts, friction and equalities, with their exact bytes.
-ghost use Rattle.std.specs.Prelude.{IfOk, IsTrue};
-
 use super::{SLIDE, contains, is_told, swapped, tell};
-use fx_num::{Fix, Wide};
-use mj_step::Work;
-use mj_types::{Source, State};
-use mj_valid::judge;
 use std::alloc::Global;
 use std::test::Fail;
 
@@ -36,50 +30,6 @@ fn capsule(alloc: Global) -> Result<String, Fail> {
         "size = [\"0.1\"]\n",
         "type = \"capsule\"\nsize = [\"0.125\", \"0.25\"]\nquat = [1, 0, 1, 0]\n",
     )
-}
-
-// The first step of a model without motors.
-fn stepped(alloc: Global, text: &str) -> Result<Work, Fail>
-    ensures { IfOk result (λ w. IsTrue w.is_done) }
-{
-    let model = judge(alloc, text.as_bytes()).ok().ok_or("a model")?;
-    let mut state = State::new(alloc, &model).ok().ok_or("a state")?;
-    let mut work = Work::new(alloc, &model).ok().ok_or("a workspace")?;
-    if !model.motors.is_empty() {
-        return Err("no motors".into());
-    }
-    match work.step(&model, &mut state, &[]) {
-        Ok(()) => Ok(work),
-        Err(_) => Err("a step".into()),
-    }
-}
-
-#[test]
-fn the_row_of_a_limit_is_reduced(rt: HostRuntime) -> Result<(), Fail> {
-    let work = stepped(rt.alloc(), LIMITED)?;
-    let rows = work.jacobian();
-    assert_eq!(rt; rows.list.len(), 1);
-    for row in rows.list.as_slice() {
-        assert_eq!(rt; row.source, Source::Low(1));
-        assert_eq!(rt; row.r, Fix::<32>::from_raw(-2_147_483_648));
-        assert!(rt; !row.idle);
-    }
-    let dual = work.dual();
-    assert_eq!(rt; dual.m, 1);
-    let one = Wide::<48> {
-        raw: 281_474_976_710_656,
-    };
-    assert_eq!(rt;
-        dual.g.as_slice().first(),
-        Some(&Fix::<24>::from_raw(16_777_216))
-    );
-    assert_eq!(rt; dual.diag.as_slice().first(), Some(&one));
-    assert_eq!(rt; dual.r.as_slice().first(), Some(&one));
-    assert_eq!(rt;
-        dual.b.as_slice().first(),
-        Some(&Fix::<32>::from_raw(-38_654_705_664))
-    );
-    Ok(())
 }
 
 // Whether each of these stands in a text.
