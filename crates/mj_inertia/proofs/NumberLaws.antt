@@ -1,6 +1,5 @@
 -- The sizes and the radii of momenta and of entries, and when they are refused.
-use Rattle.std.proofs.Common.{◌≡◌, ℕ, ◌+◌, ◌*◌, ◌^◌, ◌<◌, ◌≤◌, Bool, true, false, ◌&&◌, cond, nat_lt, ℤ, pos, ◌+ℤ◌, unsigned_abs, Option, None, Some, refl, sym, ap, ap₂, ◌∙◌, subst, inl, inr, arith, mul-le-mul}
-use Rattle.std.proofs.lemmas.Int.{ints}
+use Rattle.std.proofs.Common.{◌≡◌, ℕ, ◌+◌, ◌*◌, ◌^◌, ◌<◌, ◌≤◌, Bool, true, false, ◌&&◌, cond, nat_lt, ℤ, unsigned_abs, Option, None, Some, refl, sym, ap, ap₂, ◌∙◌, subst, inl, inr, arith, mul-le-mul}
 use Rattle.std.proofs.lemmas.Bool.{cases_lt, lt-ltb, le-ltb, le-leb, lt-leb}
 use Rattle.fx_whole.specs.First.{or_first}
 use Rattle.fx_num.specs.Settled.{over, over_value, settled_mid, rounding_loss}
@@ -10,56 +9,14 @@ use Rattle.fx_num.specs.declared.carry.Over.TheVariants.{Value, Radius}
 use Rattle.fx_near.specs.Widths.{settled_radius}
 use Rattle.fx_near.proofs.RadiusLaws.{radius-le}
 use Rattle.fx_vec.specs.Vectors.{Triple}
-use Rattle.fx_vec.specs.Spatial.{Spatial, Inertia, no_spatial, pair}
-use Rattle.fx_vec.specs.Sizes.{Within, Below, Within6, Below6, no_size, no_size6, cross_size, inertia_size, pair_size}
+use Rattle.fx_vec.specs.Spatial.{Spatial, pair}
+use Rattle.fx_vec.specs.Sizes.{Within, Below, Within6, Below6, no_size, no_size6}
 use Rattle.fx_vec.specs.Settling.{over3, over6, settled6, radii6}
-use Rattle.fx_vec.specs.Widths.{inertia_width, pair_width, dot_width}
-use Rattle.fx_vec.specs.Room.{Fits6, Narrow6}
-use Rattle.fx_vec.proofs.Bounds.{dot_size-le, cross_size-le}
+use Rattle.fx_vec.specs.Widths.{pair_width, dot_width}
 use Rattle.mj_types.specs.declared.range.Quantity.{Quantity}
 use Rattle.mj_types.specs.declared.range.Quantity.TheVariants as kind
-use Rattle.mj_types.specs.Placed.{WithinInertia}
-use Rattle.mj_types.specs.Ranges.{unless, limited, is_within}
+use Rattle.mj_types.specs.Ranges.{unless, is_within}
 use Rattle.mj_inertia.specs.MassEntries.{momentum, momentum_radius, momentum_fault, is_within3, rounded_product, rounded_radius}
-
--- ---- the sum of a momentum fits
-pub inertia_size-le : (i : Inertia) (s : Spatial ℤ) (m n : ℕ) → WithinInertia i m → Within6 s n → Below6 (inertia_size i s) (5 * (m * n))
-inertia_size-le i s m n h k = record {
-  ang = record {
-    x = omega (arith, dot_size-le i.row_x s.ang m n h.row_x k.ang, turned.x);
-    y = omega (arith, dot_size-le i.row_y s.ang m n h.row_y k.ang, turned.y);
-    z = omega (arith, dot_size-le i.row_z s.ang m n h.row_z k.ang, turned.z);
-  };
-  lin = record {
-    x = omega (arith, mul-le-mul h.mass k.lin.x, moved.x);
-    y = omega (arith, mul-le-mul h.mass k.lin.y, moved.y);
-    z = omega (arith, mul-le-mul h.mass k.lin.z, moved.z);
-  };
-}
-  where
-    turned : Below (cross_size i.moment s.lin) (2 * (m * n))
-    turned = cross_size-le i.moment s.lin m n h.moment k.lin
-
-    moved : Below (cross_size i.moment s.ang) (2 * (m * n))
-    moved = cross_size-le i.moment s.ang m n h.moment k.ang
-
-fits_none : (old : Spatial ℤ) (size : Spatial ℕ) → old ≡ no_spatial → Below6 size (5 * 2 ^ 111) → Fits6 old size
-fits_none old size e b = subst (λ s. Fits6 s size) (sym e) (record {
-  ang = record { x = omega (arith, b.ang.x); y = omega (arith, b.ang.y); z = omega (arith, b.ang.z) };
-  lin = record { x = omega (arith, b.lin.x); y = omega (arith, b.lin.y); z = omega (arith, b.lin.z) };
-})
-
-pub sum_fits : (old : Spatial ℤ) (i : Inertia) (s t : Spatial ℤ) → old ≡ no_spatial → s ≡ t → WithinInertia i (2 ^ 69) → Within6 t (2 ^ 42) → Fits6 old (inertia_size i s)
-sum_fits old i s t e f h k = fits_none old (inertia_size i s) e (inertia_size-le i s (2 ^ 69) (2 ^ 42) h (subst (λ x. Within6 x (2 ^ 42)) (sym f) k))
-
-none_narrow : (i : Inertia) → Narrow6 no_size6 (inertia_width i no_size6)
-none_narrow i = record {
-  ang = record { x = omega arith; y = omega arith; z = omega arith };
-  lin = record { x = omega arith; y = omega arith; z = omega arith };
-}
-
-pub sum_narrow : (old : Spatial ℕ) (i : Inertia) (r : Spatial ℕ) → old ≡ no_size6 → r ≡ no_size6 → Narrow6 old (inertia_width i r)
-sum_narrow old i r e f = subst (λ o. Narrow6 o (inertia_width i r)) (sym e) (subst (λ x. Narrow6 no_size6 (inertia_width i x)) (sym f) (none_narrow i))
 
 -- ---- radii
 radius_one : (sum : ℤ) → settled_radius 0 (rounding_loss sum 32) 32 ≤ 1
@@ -88,34 +45,7 @@ pair_width-le s h r m k b = two _ _ m (dot_width-le s.ang h.ang r.ang m k.ang b.
     two : (x y m : ℕ) → x ≤ 3 * m → y ≤ 3 * m → x + y ≤ 6 * m
     two x y m p q = omega arith
 
-pub pair_size-le : (s h : Spatial ℤ) (m n : ℕ) → Within6 s m → Within6 h n → pair_size s h ≤ 6 * (m * n)
-pair_size-le s h m n k l = omega (arith, dot_size-le s.ang h.ang m n k.ang l.ang, dot_size-le s.lin h.lin m n k.lin l.lin)
-
-same_width : (s t h : Spatial ℤ) (q r : Spatial ℕ) → s ≡ t → q ≡ no_size6 → pair_width s q h r ≡ pair_width t no_size6 h r
-same_width s t h q r e f = ap₂ (λ a b. pair_width a b h r) e f
-
-pub sum_width-le : (x y : ℕ) (s t h : Spatial ℤ) (q r : Spatial ℕ) → x ≡ y + pair_width s q h r → y ≡ 0 → s ≡ t → q ≡ no_size6
-    → Within6 t (2 ^ 42) → Below6 r 1 → x ≤ 6 * 2 ^ 42
-sum_width-le x y s t h q r e z f g k b =
-    le_from x y (pair_width s q h r) (pair_width t no_size6 h r) (6 * 2 ^ 42) e z (same_width s t h q r f g) (pair_width-le t h r (2 ^ 42) k b)
-  where
-    le_from : (x y p q n : ℕ) → x ≡ y + p → y ≡ 0 → p ≡ q → q ≤ n → x ≤ n
-    le_from x y p q n e z f h = omega arith
-
--- a product and its width fit
-pub pair_fits : (x : ℤ) (s t h : Spatial ℤ) → x ≡ pos 0 → s ≡ t → Within6 t (2 ^ 42) → Within6 h (2 ^ 62) → unsigned_abs x + pair_size s h < 2 ^ 127
-pair_fits x s t h z f k l = fits x (pair_size s h) z (pair_size-le s h (2 ^ 42) (2 ^ 62) (subst (λ v. Within6 v (2 ^ 42)) (sym f) k) l)
-  where
-    fits : (x : ℤ) (p : ℕ) → x ≡ pos 0 → p ≤ 6 * 2 ^ 104 → unsigned_abs x + p < 2 ^ 127
-    fits x p e h = omega (arith, ints)
-
-pub pair_narrow : (y : ℕ) (s t h : Spatial ℤ) (q r : Spatial ℕ) → y ≡ 0 → s ≡ t → q ≡ no_size6
-    → Within6 t (2 ^ 42) → Below6 r 1 → y + pair_width s q h r < 2 ^ 128
-pair_narrow y s t h q r z f g k b = small (y + pair_width s q h r) (sum_width-le (y + pair_width s q h r) y s t h q r refl z f g k b)
-  where
-    small : (n : ℕ) → n ≤ 6 * 2 ^ 42 → n < 2 ^ 128
-    small n h = omega arith
-
+-- a product that is rounded
 pub rounded_radius-le : (s h : Spatial ℤ) (r : Spatial ℕ) → pair_width s no_size6 h r ≤ 6 * 2 ^ 42 → rounded_radius s h r ≤ 2 ^ 13
 unfolding rounded_radius
 rounded_radius-le s h r w = omega (arith, radius-le (pair_width s no_size6 h r) (6 * 2 ^ 10) (pair s h) 32 (omega arith))
@@ -198,15 +128,3 @@ unfolding rounded_product rounded_radius
 product_first x w s h r e f l =
     ap₂ (λ (a : ℤ) (b : ℕ). over (2 ^ 62) (settled_mid a 32) (settled_radius b (rounding_loss a 32) 32)) e f
     ∙ product_over (rounded_product s h) (rounded_radius s h r) (rounded_radius-le s h r (subst (λ (n : ℕ). n ≤ 6 * 2 ^ 42) f l))
-
--- a product of more than 2^62 is past 2^60 with any armature
-pub product_stops : (v a : ℤ) (j : ℕ) (o : Over) → unsigned_abs a ≤ 2 ^ 53 → Some o ≡ over_value (2 ^ 62) v
-    → Some (record { kind = kind.Mass; index = j + 1 }) ≡ limited kind.Mass (j + 1) (2 ^ 60) (v +ℤ a)
-product_stops v a j o h e =
-    elim (cases_lt (2 ^ 62) (unsigned_abs v)) [
-      | inl l ↦ sym (ap (λ b. unless b kind.Mass (j + 1)) (lt-leb (unsigned_abs (v +ℤ a)) (2 ^ 60) (omega (arith, ints))))
-      | inr l ↦ absurd (clash (over_value (2 ^ 62) v) (ap (λ b. cond b (Some Value) None) (le-ltb (2 ^ 62) (unsigned_abs v) l)) e)
-    ]
-  where
-    clash : (x : Option Over) → x ≡ None → Some o ≡ x → ⊥
-    clash x f g = cc

@@ -1,11 +1,13 @@
 // The numbers of the mass matrix, each an exact sum that is rounded once, with radii.
 ghost use Rattle.std.specs.Prelude.{◌≡◌, ◌+◌, ◌*◌, ◌^◌, ◌<◌, ◌≤◌, ◌+ℤ◌, unsigned_abs, IfOk};
+ghost use Rattle.fx_num.specs.Radii.{product_width};
 ghost use Rattle.fx_num.specs.Settled.{over_value};
 ghost use Rattle.fx_whole.specs.First.{refusal_of};
-ghost use Rattle.fx_vec.specs.Spatial.{inertia_times, pair, no_spatial};
-ghost use Rattle.fx_vec.specs.Sizes.{Within6, Below6, no_size6};
-ghost use Rattle.fx_vec.specs.Views.{spatial, spatial_radii, spatial_sums, spatial_widths, inertia as inertia_of};
-ghost use Rattle.fx_vec.specs.Widths.{pair_width};
+ghost use Rattle.fx_vec.specs.Vectors.{no_vector};
+ghost use Rattle.fx_vec.specs.Spatial.{inertia_times, pair};
+ghost use Rattle.fx_vec.specs.Sizes.{Within, Below, Within6, Below6, no_size, no_size6};
+ghost use Rattle.fx_vec.specs.Views.{mids, radii, sums, widths, spatial, spatial_radii, spatial_sums, spatial_widths, inertia as inertia_of};
+ghost use Rattle.fx_vec.specs.Widths.{dot_width, pair_width};
 ghost use Rattle.mj_types.specs.declared.range.Quantity.TheVariants as kind;
 ghost use Rattle.mj_types.specs.Placed.{WithinInertia};
 ghost use Rattle.mj_types.specs.Ranges.{limited};
@@ -14,60 +16,42 @@ ghost use Rattle.mj_inertia.specs.MassEntries as spec;
 use fx_near::{Band, Near};
 use fx_num::{Fix, Number, Over, Plain, Sum, Total, narrow_within, none, settle};
 use fx_vec::{
-    Inertia10, Sp6, Sum6, Total3, Total6, V3, Vector3, Vector6, inertia_into, pair_into, settle6,
+    Inertia10, Sp6, Sum3, Sum6, Total3, Total6, V3, Vector3, Vector6, inertia_into, pair_into,
+    settle6,
 };
 use fx_whole::sum;
 use mj_types::{OutOfRange, Quantity};
 
-// A vector whose numbers are known exactly.
-fn exact3(v: &V3<Plain, 32>) -> V3<Band, 32>
-    ensures { result ≡ record {
-      x = record { mid = v.now.x.mid; rad = 0 };
-      y = record { mid = v.now.y.mid; rad = 0 };
-      z = record { mid = v.now.z.mid; rad = 0 };
-    } }
+// Three empty sums.
+fn no_sums3() -> Sum3<Plain, 72>
+    ensures { sums result ≡ no_vector }
 {
-    Vector3 {
-        x: Number {
-            mid: v.x.mid,
-            rad: 0,
-        },
-        y: Number {
-            mid: v.y.mid,
-            rad: 0,
-        },
-        z: Number {
-            mid: v.z.mid,
-            rad: 0,
-        },
+    Total3 {
+        x: none::<Plain, 72>(),
+        y: none::<Plain, 72>(),
+        z: none::<Plain, 72>(),
     }
 }
 
-// A motion whose numbers are known exactly.
-fn exact6(s: &Sp6<Plain, 32>) -> Sp6<Band, 32>
-    ensures mid { spatial result ≡ spatial s.now }
-    ensures rad { spatial_radii (λ r. r) result ≡ no_size6 }
+// An exact sum, with the width 0.
+fn exact(sum: &Sum<Plain, 72>) -> Sum<Band, 72>
+    ensures mid { result.mid ≡ sum.now.mid }
+    ensures width { result.rad ≡ 0 }
 {
-    Vector6 {
-        ang: exact3(&s.ang),
-        lin: exact3(&s.lin),
+    Total {
+        mid: sum.mid,
+        rad: 0,
     }
 }
 
-// Six empty sums.
-fn no_sums() -> Sum6<Band, 72>
-    ensures mid { spatial_sums result ≡ no_spatial }
-    ensures width { spatial_widths (λ w. w) result ≡ no_size6 }
+fn exact3(s: &Sum3<Plain, 72>) -> Sum3<Band, 72>
+    ensures mid { sums result ≡ sums s.now }
+    ensures width { widths (λ w. w) result ≡ no_size }
 {
-    let zero = Total { mid: 0, rad: 0 };
-    let three = Total3 {
-        x: zero,
-        y: zero,
-        z: zero,
-    };
-    Total6 {
-        ang: three,
-        lin: three,
+    Total3 {
+        x: exact(&s.x),
+        y: exact(&s.y),
+        z: exact(&s.z),
     }
 }
 
@@ -79,9 +63,15 @@ fn momentum_sum(inertia: &Inertia10, column: &Sp6<Plain, 32>) -> Sum6<Band, 72>
         ≡ inertia_times (inertia_of inertia.now) (spatial column.now) }
     ensures width { spatial_widths (λ w. w) result ≡ no_size6 }
 {
-    let mut sum = no_sums();
-    inertia_into::<Band, 32, 72>(inertia, &exact6(column), &mut sum);
-    sum
+    let mut sum = Total6 {
+        ang: no_sums3(),
+        lin: no_sums3(),
+    };
+    inertia_into::<Plain, 32, 72>(inertia, column, &mut sum);
+    Total6 {
+        ang: exact3(&sum.ang),
+        lin: exact3(&sum.lin),
+    }
 }
 
 // Six exact sums as the momentum of dof `j`: rounded, with their radii.
@@ -126,7 +116,46 @@ pub(crate) fn momentum(
     rounded(&momentum_sum(inertia, column), j)
 }
 
-// The product of a column and a momentum, exactly.
+// The numbers of a momentum, without their radii.
+fn mids3(v: &V3<Band, 40>) -> V3<Plain, 40>
+    ensures { mids result ≡ mids v.now }
+{
+    Vector3 {
+        x: Fix::from_raw(v.x.mid),
+        y: Fix::from_raw(v.y.mid),
+        z: Fix::from_raw(v.z.mid),
+    }
+}
+
+fn mids6(s: &Sp6<Band, 40>) -> Sp6<Plain, 40>
+    ensures { spatial result ≡ spatial s.now }
+{
+    Vector6 {
+        ang: mids3(&s.ang),
+        lin: mids3(&s.lin),
+    }
+}
+
+// The width of an exact number times one with a radius of at most 1.
+fn width(a: &Fix<32>, b: &Near<40>) -> u64
+    requires a { unsigned_abs a.now.mid ≤ 2 ^ 42 }
+    requires b { b.now.rad ≤ 1 }
+    ensures value { result ≡ product_width a.now.mid 0 b.now.mid b.now.rad }
+    ensures small { result ≤ 2 ^ 42 }
+{
+    a.mid.unsigned_abs() * b.rad
+}
+
+fn width3(a: &V3<Plain, 32>, b: &V3<Band, 40>) -> u64
+    requires a { Within (mids a.now) (2 ^ 42) }
+    requires b { Below (radii (λ r. r) b.now) 1 }
+    ensures value { result ≡ dot_width (mids a.now) no_size (mids b.now) (radii (λ r. r) b.now) }
+    ensures small { result ≤ 3 * 2 ^ 42 }
+{
+    width(&a.x, &b.x) + width(&a.y, &b.y) + width(&a.z, &b.z)
+}
+
+// The product of a column and a momentum, exactly. The column has no radii, so 64 bits hold the width.
 fn product_sum(column: &Sp6<Plain, 32>, momentum: &Sp6<Band, 40>) -> Sum<Band, 72>
     requires column { Within6 (spatial column.now) (2 ^ 42) }
     requires momentum { Within6 (spatial momentum.now) (2 ^ 62) }
@@ -136,9 +165,13 @@ fn product_sum(column: &Sp6<Plain, 32>, momentum: &Sp6<Band, 40>) -> Sum<Band, 7
         (spatial momentum.now) (spatial_radii (λ r. r) momentum.now) }
     ensures narrow { result.rad ≤ 6 * 2 ^ 42 }
 {
-    let mut sum = none::<Band, 72>();
-    pair_into::<Band, 32, 40, 72>(&exact6(column), momentum, &mut sum);
-    sum
+    let mut sum = none::<Plain, 72>();
+    pair_into::<Plain, 32, 40, 72>(column, &mids6(momentum), &mut sum);
+    let width = width3(&column.ang, &momentum.ang) + width3(&column.lin, &momentum.lin);
+    Total {
+        mid: sum.mid,
+        rad: u128::from(width),
+    }
 }
 
 // The product of a column and a momentum, rounded to scale 40 with its radius. `Over::Value`

@@ -1,9 +1,8 @@
 -- Where everything is in a state of a model, and the first number of it that is out of range: a composition of the other files' definitions.
-use Rattle.std.specs.Prelude.{◌≡◌, ℕ, ◌+◌, ◌^◌, ◌<◌, true, length, Option}
+use Rattle.std.specs.Prelude.{ℕ, ◌+◌, ◌<◌, length, Option}
 use Rattle.fx_whole.specs.First.{or_first, first_to}
 use Rattle.fx_whole.specs.Entries.{below}
 use Rattle.fx_vec.specs.Quaternions.{quaternion}
-use Rattle.fx_vec.specs.Sizes.{Within, Within6}
 use Rattle.fx_vec.specs.Views.{mids}
 use Rattle.mj_quat.specs.Rotation.{IsUnit}
 use Rattle.mj_types.specs.declared.model.Model.{Model}
@@ -11,12 +10,10 @@ use Rattle.mj_types.specs.declared.state.State.{State}
 use Rattle.mj_types.specs.declared.carriers.Frames.{Frames}
 use Rattle.mj_types.specs.declared.range.OutOfRange.{OutOfRange}
 use Rattle.mj_types.specs.declared.range.Quantity.TheVariants as kind
-use Rattle.mj_types.specs.Lawful.{is_free}
-use Rattle.mj_types.specs.Parts.{geom, joint, number_at, no_vector, no_quaternion, no_inertia, no_motion}
-use Rattle.mj_types.specs.Placed.{Placing, WithinInertia, vector_at, quaternion_at, inertia_at, spatial_at}
-use Rattle.mj_types.specs.Rooms.{FramesRoom}
+use Rattle.mj_types.specs.Parts.{geom, no_vector, no_quaternion, no_inertia, no_motion}
+use Rattle.mj_types.specs.Placed.{Placing, quaternion_at}
 use Rattle.fx_vec.specs.Views.{spatial, inertia}
-use Rattle.mj_kin.specs.Poses.{Pose, pose, attached, norm_fault, quaternion_from}
+use Rattle.mj_kin.specs.Poses.{Pose, pose, attached, norm_fault}
 use Rattle.mj_kin.specs.Bodies.{center, body_inertia, body_fault, inertia_fault}
 use Rattle.mj_kin.specs.Columns.{column, column_fault}
 

@@ -1,7 +1,7 @@
 // Each body in its place: its pose from its parent's, and then its centre of mass and its inertia.
-ghost use Rattle.std.specs.Prelude.{◌≡◌, ℕ, ◌+◌, ◌-◌, ◌^◌, ◌<◌, ◌≤◌, ◌==◌, if◌then◌else◌, length, IfOk};
+ghost use Rattle.std.specs.Prelude.{◌≡◌, ℕ, ◌+◌, ◌-◌, ◌^◌, ◌<◌, ◌≤◌, ◌==◌, if◌then◌else◌, length, IsTrue, IfOk};
 ghost use Rattle.fx_whole.specs.First.{refusal_of};
-ghost use Rattle.fx_vec.specs.Quaternions.{quaternion};
+ghost use Rattle.fx_vec.specs.Quaternions.{quaternion, WithinQuaternion};
 ghost use Rattle.fx_vec.specs.Sizes.{Within};
 ghost use Rattle.fx_vec.specs.Vectors.{minus as minus_of};
 ghost use Rattle.mj_types.specs.declared.model.Model.{Model};
@@ -84,6 +84,28 @@ fn pose_body(model: &Model, state: &State, b: usize, out: &mut Frames) -> Result
     Ok(frame)
 }
 
+/// Whether two quaternions are the same, number by number.
+fn is_same(a: &Q4, b: &Q4) -> bool
+    ensures { IsTrue result → quaternion a.now ≡ quaternion b.now }
+{
+    a.w.mid == b.w.mid && a.x.mid == b.x.mid && a.y.mid == b.y.mid && a.z.mid == b.z.mid
+}
+
+/// The matrix of a quaternion. A frame has that of its own, and a body's inertial frame mostly has the
+/// body's orientation.
+fn matrix_beside(frame: &Frame, quat: &Q4) -> M3
+    requires { WithinQuaternion (quaternion quat.now) (2 ^ 32) }
+    ensures value { rotation.rows result ≡ rotation.matrix (quaternion quat.now) }
+    ensures sharp { rotation.IsUnit (quaternion quat.now)
+        → rotation.WithinRows (rotation.rows result) (2 ^ 32 + 16) }
+{
+    if is_same(quat, &frame.quat) {
+        frame.rows
+    } else {
+        matrix(quat)
+    }
+}
+
 /// The matrix of a body's inertial frame.
 #[tactic(auto, unfolding(crate::specs::Bodies::inertial_matrix))]
 fn inertial_matrix(frame: &Frame, body: &Body, index: usize) -> Result<M3, OutOfRange>
@@ -95,7 +117,7 @@ fn inertial_matrix(frame: &Frame, body: &Body, index: usize) -> Result<M3, OutOf
         (quaternion frame.now.quat) (quaternion body.now.iquat) }
 {
     let turn = follow(&frame.quat, &body.iquat, Quantity::QuatNorm, index)?;
-    Ok(matrix(&turn))
+    Ok(matrix_beside(frame, &turn))
 }
 
 /// Nothing where a position and a centre of mass are in their range.

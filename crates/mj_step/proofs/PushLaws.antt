@@ -122,6 +122,22 @@ module _ (m : Model) (s : State) (u : List Control) (rows : Rows) (d : Dual) (ha
       ap₂ (λ (a b : ℤ). a +ℤ settled_mid b 20) (ap (λ (f : ℕ → ℤ). f i) value) (pushes x same i l)
       ∙ sym (below-within (pos 0) m.nv (λ i. free_load m s u i +ℤ settled_mid (push_at m s u i) 20) i l)
 
+  -- a dual without rows pushes nothing
+  pub load-free : d.m ≡ 0 → load m s u ≡ free_load m s u
+  unfolding load, free_load, push_at
+  load-free none =
+      fun_ext (λ i. elim (cases_lt i m.nv) [
+        | inl l ↦
+            below-within (pos 0) m.nv _ i l
+            ∙ ap (λ (n : ℕ). free_load m s u i +ℤ settled_mid (sum_to n (λ k. row_jacobian m s u k i *ℤ force_at m s u k)) 20) (sym (rows-count d (dual_at m s u) has.dual_) ∙ none)
+            ∙ ap (λ (x : ℤ). free_load m s u i +ℤ x) (nearest-zero (pos (2 ^ 20)))
+            ∙ plus_none (free_load m s u i)
+        | inr l ↦ below-past (pos 0) m.nv _ i l ∙ sym (below-past (pos 0) m.nv _ i l)
+      ])
+    where
+      plus_none : (x : ℤ) → x +ℤ pos 0 ≡ x
+      plus_none x = omega (arith, ints)
+
 -- the loads of all dofs
 pub load-whole : (m : Model) (s : State) (u : List Control) (x : List Control) → length x ≡ m.nv → ((i : ℕ) → i < m.nv → number_at x i ≡ load m s u i)
     → number_at x ≡ load m s u

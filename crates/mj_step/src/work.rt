@@ -610,8 +610,45 @@ impl Work {
         Ok(())
     }
 
-    // The acceleration that the load gives.
+    // The acceleration that the load gives: the one without constraints, where the dual has no rows.
     fn accelerate(
+        &mut self,
+        model: &Model,
+        state: &State,
+        controls: &[Fix<32>],
+    ) -> Result<(), OutOfRange>
+        requires made { MadeFor model.now self.old }
+        requires factor { HasFactor model.now state.now self.old.factor }
+        requires smooth { HasAcceleration model.now
+            (spec.smooth model.now state.now controls.now) self.old.smooth.items }
+        requires in_range { spec.smooth_fault model.now state.now controls.now ≡ None }
+        requires rows { HasRows model.now state.now controls.now self.old.rows self.old.dual }
+        requires load { HasLoad model.now
+            (spec.load model.now state.now controls.now) self.old.load }
+        ensures made { MadeFor model.now self.new }
+        ensures first { refusal_of result ≡ spec.solved_fault model.now state.now
+            (spec.load model.now state.now controls.now) }
+        ensures accel { IfOk result (λ _. HasAcceleration model.now
+            (spec.acceleration model.now state.now controls.now) self.new.accel.items) }
+        ensures mass { self.new.mass ≡ self.old.mass }
+        ensures bias { self.new.bias ≡ self.old.bias }
+        ensures free_load { self.new.free_load ≡ self.old.free_load }
+        ensures smooth { self.new.smooth ≡ self.old.smooth }
+        ensures load { self.new.load ≡ self.old.load }
+        ensures rows { self.new.rows ≡ self.old.rows }
+        ensures dual { self.new.dual ≡ self.old.dual }
+        ensures report { self.new.report ≡ self.old.report }
+        ensures flag { self.new.is_done ≡ self.old.is_done }
+    {
+        if self.dual.m > 0 {
+            return self.solve_load(model, state, controls);
+        }
+        self.accel.copy_from_slice(self.smooth.as_slice());
+        Ok(())
+    }
+
+    // The acceleration that the load gives, by a solve.
+    fn solve_load(
         &mut self,
         model: &Model,
         state: &State,

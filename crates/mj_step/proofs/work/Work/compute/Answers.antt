@@ -10,6 +10,9 @@ use Rattle.mj_step.proofs.work.Work.compute.Goals as goal
 pub push_constraints-requires-clause-in_range : goal.push_constraints-requires-clause-in_range
 push_constraints-requires-clause-in_range c = sym c.in_ok-constrain.ensures.first
 
+pub accelerate-requires-clause-in_range : goal.accelerate-requires-clause-in_range
+accelerate-requires-clause-in_range c = sym c.in_ok-accelerate_freely.ensures.first
+
 pub returns-in_err-weigh-clause-first : goal.returns-in_err-weigh-clause-first
 unfolding step_fault
 returns-in_err-weigh-clause-first c =
