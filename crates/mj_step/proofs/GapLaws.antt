@@ -1,5 +1,5 @@
 -- How far the bound that a step tells is below its cost: by the sum of the shortfalls, which is in its range.
-use Rattle.std.proofs.Common.{◌≡◌, ℕ, zero, suc, ◌^◌, ◌<◌, ◌≤◌, ℤ, pos, ◌-ℤ◌, ◌*ℤ◌, ◌≤ℤ◌, unsigned_abs, List, Option, None, refl, sym, ap, ◌∙◌, subst, arith}
+use Rattle.std.proofs.Common.{◌≡◌, ℕ, zero, suc, ◌^◌, ◌≤◌, ℤ, pos, ◌-ℤ◌, ◌*ℤ◌, ◌≤ℤ◌, unsigned_abs, List, None, arith}
 use Rattle.std.proofs.lemmas.Int.{ints}
 use Rattle.fx_whole.specs.First.{first_to, refusal_of}
 use Rattle.fx_whole.proofs.FirstLaws.{or_both, first_none}
@@ -9,11 +9,10 @@ use Rattle.mj_force.specs.Enclosures.{force_of, enclosure_fault}
 use Rattle.mj_optimum.specs.Cost.{cost}
 use Rattle.mj_optimum.specs.Limits.{shortfall_limit, shortfall_to}
 use Rattle.mj_optimum.specs.Problem.{Problem}
-use Rattle.mj_optimum.specs.Shortfall.{shortfall, total_shortfall, bound2}
+use Rattle.mj_optimum.specs.Shortfall.{total_shortfall, bound2}
 use Rattle.mj_pgs.specs.Answer.{answer}
 use Rattle.mj_types.specs.declared.dual.Cert.{Cert}
 use Rattle.mj_types.specs.declared.model.Model.{Model}
-use Rattle.mj_types.specs.declared.range.OutOfRange.{OutOfRange}
 use Rattle.mj_types.specs.declared.range.Quantity.TheVariants as kind
 use Rattle.mj_types.specs.declared.state.State.{State}
 use Rattle.mj_types.specs.Control.{Control}

@@ -1,10 +1,14 @@
 -- What pushes on the dofs: the Jacobians of the dual's rows are found in the list of rows, each in its range.
-use Rattle.std.proofs.Common.{◌≡◌, ℕ, suc, ◌+◌, ◌-◌, ◌*◌, ◌^◌, ◌<◌, ◌≤◌, ℤ, pos, ◌+ℤ◌, ◌*ℤ◌, unsigned_abs, List, length, None, refl, sym, ap, ap₂, ◌∙◌, subst, arith, mul-le-mul_right}
+use Rattle.std.proofs.Math.Path.{fun_ext}
+use Rattle.std.proofs.lemmas.Bool.{cases_lt}
+use Rattle.std.proofs.lemmas.Int.{ints}
+use Rattle.std.proofs.Common.{◌≡◌, ℕ, suc, ◌+◌, ◌-◌, ◌*◌, ◌^◌, ◌<◌, ◌≤◌, ℤ, pos, ◌+ℤ◌, ◌-ℤ◌, ◌*ℤ◌, unsigned_abs, List, length, None, refl, sym, ap, ap₂, ◌∙◌, subst, inl, inr, arith, mul-le-mul_right}
 use Rattle.fx_whole.specs.Counting.{count_to}
 use Rattle.fx_whole.specs.Sums.{sum_to}
-use Rattle.fx_whole.proofs.EntryLaws.{below-within, below-is}
+use Rattle.fx_whole.proofs.EntryLaws.{below-within, below-past, below-is}
 use Rattle.fx_whole.proofs.FirstLaws.{or_both, first_none}
 use Rattle.fx_whole.proofs.SumLaws.{sum_to-ext}
+use Rattle.fx_whole.proofs.NearestLaws.{nearest-zero}
 use Rattle.fx_num.specs.Settled.{settled_mid}
 use Rattle.mj_types.specs.declared.dual.Dual.{Dual}
 use Rattle.mj_types.specs.declared.dual.Forces.{Forces}
@@ -28,7 +32,8 @@ use Rattle.mj_dual.specs.Assembly.{constraint, constraint_fault, is_active, dual
 use Rattle.mj_dual.specs.Passing.{passing}
 use Rattle.mj_dual.specs.Reductions.{Dynamics, reduction_fault}
 use Rattle.mj_dual.proofs.PassingLaws.{passing-below}
-use Rattle.mj_step.specs.Steps.{free_load, constraints_at, dynamics_of, dual_at, problem_at, force_at, row_jacobian, push_at, load, rows_fault}
+use Rattle.mj_passive.specs.Forces.{tau}
+use Rattle.mj_step.specs.Steps.{bias_of, free_load, constraints_at, dynamics_of, dual_at, problem_at, force_at, row_jacobian, push_at, load, rows_fault}
 use Rattle.mj_step.specs.Workspace.{HasRows, CanPush, push_of}
 
 -- ---- the places of a dual's rows
@@ -124,15 +129,17 @@ module _ (m : Model) (s : State) (u : List Control) (rows : Rows) (d : Dual) (ha
 
   -- a dual without rows pushes nothing
   pub load-free : d.m ≡ 0 → load m s u ≡ free_load m s u
-  unfolding load, free_load, push_at
+  unfolding load free_load push_at
   load-free none =
+      let with : ℕ → ℤ = λ i. free_load m s u i +ℤ settled_mid (push_at m s u i) 20 in
+      let free : ℕ → ℤ = λ i. tau m s u i -ℤ bias_of m s i in
       fun_ext (λ i. elim (cases_lt i m.nv) [
         | inl l ↦
-            below-within (pos 0) m.nv _ i l
+            below-within (pos 0) m.nv with i l
             ∙ ap (λ (n : ℕ). free_load m s u i +ℤ settled_mid (sum_to n (λ k. row_jacobian m s u k i *ℤ force_at m s u k)) 20) (sym (rows-count d (dual_at m s u) has.dual_) ∙ none)
             ∙ ap (λ (x : ℤ). free_load m s u i +ℤ x) (nearest-zero (pos (2 ^ 20)))
             ∙ plus_none (free_load m s u i)
-        | inr l ↦ below-past (pos 0) m.nv _ i l ∙ sym (below-past (pos 0) m.nv _ i l)
+        | inr l ↦ below-past (pos 0) m.nv with i l ∙ sym (below-past (pos 0) m.nv free i l)
       ])
     where
       plus_none : (x : ℤ) → x +ℤ pos 0 ≡ x
