@@ -38,11 +38,43 @@ pub(crate) fn body_at(model: &Model, b: usize) -> &Body
     model.bodies.entry(b)
 }
 
+/// The frame of the parent of body `b + 1`, where `last` is that of body `b` (the world's at 0). In a
+/// chain that body is the parent, and no matrix is formed.
+fn parent_frame(
+    model: &Model,
+    state: &State,
+    b: usize,
+    last: &Frame,
+    pos: &Array<V3<Plain, 32>>,
+    quat: &Array<Q4>,
+) -> Frame
+    requires body { b < length model.now.bodies }
+    requires positions { length pos.now ≡ length model.now.bodies }
+    requires orientations { length quat.now ≡ length model.now.bodies }
+    requires posed { working.ArePosed model.now state.now pos.now quat.now b }
+    requires last { working.pose_of last.now ≡ poses.pose model.now state.now b }
+    requires near_last { Within (mids last.now.pos) (2 ^ 44) }
+    ensures pose { working.pose_of result
+        ≡ poses.pose model.now state.now (body model.now.bodies b).parent }
+    ensures near { Within (mids result.pos) (2 ^ 44) }
+{
+    let parent = body_at(model, b).parent;
+    if parent != b {
+        return frame_of(parent, pos, quat);
+    }
+    Frame {
+        pos: last.pos,
+        quat: last.quat,
+        rows: last.rows,
+    }
+}
+
 /// The frame of body `b + 1` as it is attached to its parent, before its joints move it.
 fn attach_body(
     model: &Model,
     state: &State,
     b: usize,
+    last: &Frame,
     pos: &Array<V3<Plain, 32>>,
     quat: &Array<Q4>,
 ) -> Result<Frame, OutOfRange>
@@ -50,6 +82,8 @@ fn attach_body(
     requires positions { length pos.now ≡ length model.now.bodies }
     requires orientations { length quat.now ≡ length model.now.bodies }
     requires posed { working.ArePosed model.now state.now pos.now quat.now b }
+    requires last { working.pose_of last.now ≡ poses.pose model.now state.now b }
+    requires near_last { Within (mids last.now.pos) (2 ^ 44) }
     ensures pose { IfOk result (λ f. working.pose_of f
         ≡ poses.pose_after model.now state.now b 0) }
     ensures unit { IfOk result (λ f. rotation.IsUnit (quaternion f.quat)) }
@@ -57,16 +91,24 @@ fn attach_body(
     ensures first { refusal_of result ≡ poses.attached_fault model.now state.now b }
 {
     let body = body_at(model, b);
-    let parent = frame_of(body.parent, pos, quat);
+    let parent = parent_frame(model, state, b, last, pos, quat);
     attach(&parent, &body.pos, &body.quat, Quantity::QuatNorm, b + 1)
 }
 
 /// The frame of body `b + 1` after its joints, which leave their anchors and directions.
-fn pose_body(model: &Model, state: &State, b: usize, out: &mut Frames) -> Result<Frame, OutOfRange>
+fn pose_body(
+    model: &Model,
+    state: &State,
+    b: usize,
+    last: &Frame,
+    out: &mut Frames,
+) -> Result<Frame, OutOfRange>
     requires fits { Fits model.now state.now }
     requires room { FramesRoom model.now out.old }
     requires body { b < length model.now.bodies }
     requires placed { working.ArePlaced model.now state.now out.old b }
+    requires last { working.pose_of last.now ≡ poses.pose model.now state.now b }
+    requires near_last { Within (mids last.now.pos) (2 ^ 44) }
     ensures room { FramesRoom model.now out.new }
     ensures posed { IfOk result (λ _. working.ArePosed model.now state.now
         out.new.pos out.new.quat b) }
@@ -79,7 +121,7 @@ fn pose_body(model: &Model, state: &State, b: usize, out: &mut Frames) -> Result
         out.new.column (working.joints_before model.now (b + 1))) }
     ensures first { refusal_of result ≡ poses.pose_fault model.now state.now b }
 {
-    let attached = attach_body(model, state, b, &out.pos, &out.quat)?;
+    let attached = attach_body(model, state, b, last, &out.pos, &out.quat)?;
     let frame = move_joints(model, state, b, attached, &mut out.anchor, &mut out.column)?;
     Ok(frame)
 }
@@ -205,24 +247,30 @@ fn write_body(out: &mut Frames, b: usize, frame: &Frame, standing: &Standing)
     out.inertia.put(b, standing.inertia);
 }
 
-/// Places body `b + 1`, where all before it are placed.
+/// Places body `b + 1` and gives its frame. All before it are placed; `last` is the frame of body `b`.
 pub(crate) fn place_body(
     model: &Model,
     state: &State,
     b: usize,
+    last: &Frame,
     out: &mut Frames,
-) -> Result<(), OutOfRange>
+) -> Result<Frame, OutOfRange>
     requires fits { Fits model.now state.now }
     requires room { FramesRoom model.now out.old }
     requires body { b < length model.now.bodies }
     requires placed { working.ArePlaced model.now state.now out.old b }
+    requires last { working.pose_of last.now ≡ poses.pose model.now state.now b }
+    requires near_last { Within (mids last.now.pos) (2 ^ 44) }
     ensures room { FramesRoom model.now out.new }
     ensures placed { IfOk result (λ _. working.ArePlaced model.now state.now out.new (b + 1)) }
+    ensures pose { IfOk result (λ f. working.pose_of f
+        ≡ poses.pose model.now state.now (b + 1)) }
+    ensures near { IfOk result (λ f. Within (mids f.pos) (2 ^ 44)) }
     ensures first { refusal_of result ≡ spec.body_fault model.now state.now b }
 {
-    let frame = pose_body(model, state, b, out)?;
+    let frame = pose_body(model, state, b, last, out)?;
     let point = reference(model, b, &frame, &out.pos);
     let standing = stand(body_at(model, b), &frame, &point, b + 1)?;
     write_body(out, b, &frame, &standing);
-    Ok(())
+    Ok(frame)
 }

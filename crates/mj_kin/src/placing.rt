@@ -12,9 +12,10 @@ use crate::bodies::place_body;
 use crate::columns::finish_columns;
 use crate::geoms::place_geoms;
 use crate::inertias::judge_inertias;
+use crate::leaves::world;
 use mj_types::{Frames, Model, OutOfRange, State};
 
-/// Places all bodies, each after its parent.
+/// Places all bodies, each after its parent. The frame of the body before, at first the world's, is kept.
 fn place_bodies(model: &Model, state: &State, out: &mut Frames) -> Result<(), OutOfRange>
     requires fits { Fits model.now state.now }
     requires room { FramesRoom model.now out.old }
@@ -24,8 +25,9 @@ fn place_bodies(model: &Model, state: &State, out: &mut Frames) -> Result<(), Ou
     ensures first { refusal_of result ≡ first_to (length model.now.bodies)
         (body_fault model.now state.now) }
 {
+    let mut last = world();
     for b in 0..model.bodies.len() {
-        place_body(model, state, b, out)?;
+        last = place_body(model, state, b, &last, out)?;
     }
     Ok(())
 }
