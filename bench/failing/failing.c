@@ -1,19 +1,37 @@
-#define _GNU_SOURCE
-#include <dlfcn.h>
+/* Refuses one request for memory: that with the number FAIL_NTH, counted from 1, by whatever thread. At
+ * the program's end the number of all requests goes into the file FAIL_COUNT, where one is named. */
+#include <stdatomic.h>
+#include <stdio.h>
 #include <stdlib.h>
 
-static long nth = -1, count = 0;
-static void *(*take)(size_t), *(*change)(void *, size_t);
+extern void *__libc_malloc(size_t), *__libc_realloc(void *, size_t), *__libc_calloc(size_t, size_t);
+extern void *__libc_memalign(size_t, size_t);
+
+static atomic_long nth = -1, count;
 
 static int fails(void) {
     if (nth < 0) {
         const char *text = getenv("FAIL_NTH");
         nth = text ? atol(text) : 0;
-        take = dlsym(RTLD_NEXT, "malloc");
-        change = dlsym(RTLD_NEXT, "realloc");
     }
     return ++count == nth;
 }
 
-void *malloc(size_t size) { return fails() ? NULL : take(size); }
-void *realloc(void *old, size_t size) { return fails() ? NULL : change(old, size); }
+void *malloc(size_t size) { return fails() ? NULL : __libc_malloc(size); }
+void *realloc(void *old, size_t size) { return fails() ? NULL : __libc_realloc(old, size); }
+void *calloc(size_t many, size_t size) { return fails() ? NULL : __libc_calloc(many, size); }
+
+int posix_memalign(void **place, size_t align, size_t size) {
+    *place = fails() ? NULL : __libc_memalign(align, size);
+    return *place ? 0 : 12;
+}
+
+__attribute__((destructor)) static void tell(void) {
+    const char *name = getenv("FAIL_COUNT");
+    long all = count;
+    FILE *file = name ? fopen(name, "w") : NULL;
+    if (file) {
+        fprintf(file, "%ld\n", all);
+        fclose(file);
+    }
+}

@@ -1,0 +1,78 @@
+#!/bin/sh
+# Refuses each request for memory of some commands in turn, and prints a table: for how many of them the
+# answer was status 8 with no output, for how many the whole text with its status, and for how many
+# another answer. It ends with 0 where there is no other one.
+#
+#     bench/failing/failing.sh [PROGRAM]      # PROGRAM is crates/mj/out/mj where none is named
+set -eu
+export LC_ALL=C
+cd "$(dirname "$0")/../.."
+mj=$(realpath "${1:-crates/mj/out/mj}")
+room=$(mktemp -d)
+trap 'rm -rf "$room"' EXIT
+gcc -O2 -shared -fPIC -o "$room/failing.so" bench/failing/failing.c
+others=0
+
+# Runs the program with the words, and the request for memory of this number refused.
+run_failing() {
+    number=$1
+    shift
+    status=0
+    FAIL_NTH=$number FAIL_COUNT=$room/count LD_PRELOAD=$room/failing.so "$mj" "$@" \
+        > "$room/out" 2> "$room/error" < /dev/null || status=$?
+}
+
+# Refuses each request of a command in turn, and prints its row.
+try() {
+    name=$1
+    shift
+    run_failing 0 "$@"
+    whole=$status
+    mv "$room/out" "$room/whole"
+    all=$(cat "$room/count")
+    none=0
+    same=0
+    other=0
+    number=0
+    while [ "$number" -lt "$all" ]; do
+        number=$((number + 1))
+        run_failing "$number" "$@"
+        if [ -s "$room/error" ]; then
+            other=$((other + 1))
+        elif [ "$status" -eq 8 ] && [ ! -s "$room/out" ]; then
+            none=$((none + 1))
+        elif [ "$status" -eq "$whole" ] && cmp -s "$room/out" "$room/whole"; then
+            same=$((same + 1))
+        else
+            other=$((other + 1))
+        fi
+    done
+    others=$((others + other))
+    echo "| $name | $whole | $all | $none | $same | $other |"
+}
+
+cat examples/driven.toml > "$room/two.toml"
+printf '[[motor]]\njoint = "z"\n' >> "$room/two.toml"
+printf '1,2\n3,4\n5,6\n' > "$room/whole.csv"
+printf '1,2\n3,4\n' > "$room/short.csv"
+printf '1,2\n3,4\n5,x\n' > "$room/number.csv"
+printf '1,2,3\n' > "$room/wide.csv"
+head -c 67108865 /dev/zero | tr '\0' '\n' > "$room/large.csv"
+
+echo "| Command | Status | Requests | Status 8, no output | The whole text | Another answer |"
+echo "|---|---|---|---|---|---|"
+try "first slide" run --model examples/slide.toml --steps 3
+for tape in whole short number wide large; do
+    try "two motors, $tape tape" run --model "$room/two.toml" --steps 3 --tape "$room/$tape.csv"
+done
+for workers in 1 2 8; do
+    try "batch of eight tapes, $workers workers" batch --model examples/driven.toml --steps 3 \
+        --tape examples/driven.csv --tape examples/driven.csv --tape examples/driven.csv \
+        --tape examples/driven.csv --tape examples/driven.csv --tape examples/driven.csv \
+        --tape examples/driven.csv --tape examples/driven.csv --workers "$workers"
+done
+try "contacts, dual" run --model examples/chain.toml --steps 80 --tape examples/chain.csv --dual yes
+try "generated model" gen --links 2 --seed 7
+try "bench" bench --links 2 --seed 7 --steps 3
+try "refused model" run --model "$room/wide.csv" --steps 3
+[ "$others" -eq 0 ]
