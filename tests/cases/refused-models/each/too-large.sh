@@ -1,0 +1,2 @@
+#> refused model TooLarge
+head -c 1048577 /dev/zero | tr '\0' '\n'
