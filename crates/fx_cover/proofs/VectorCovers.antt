@@ -4,7 +4,7 @@ use Rattle.fx_whole.specs.Adding.{sum_in, when_in}
 use Rattle.fx_near.specs.Covers.{Covers}
 use Rattle.fx_near.specs.Widths.{settled_radius}
 use Rattle.fx_near.proofs.CoverLaws.{exact-covers}
-use Rattle.fx_near.proofs.DyadicLaws.{covers-zero, covers-add, covers-less, covers-product, covers-scaled, covers-settled, covers-raised, covers-lowered}
+use Rattle.fx_near.proofs.DyadicLaws.{covers-zero, covers-add, covers-less, covers-product, covers-scaled, covers-settled, covers-raised}
 use Rattle.fx_num.specs.Radii.{product_width}
 use Rattle.fx_vec.specs.Vectors.{Triple, no_vector, dot, cross, plus, minus, times}
 use Rattle.fx_vec.specs.Spatial.{Spatial, Inertia, plus6, no_spatial, times6, pair, motion_cross, force_cross, turned, inertia_times}
@@ -75,13 +75,6 @@ covers3-raised a n r f g k c = record {
   x = covers-raised a.x n.x r.x f g k c.x;
   y = covers-raised a.y n.y r.y f g k c.y;
   z = covers-raised a.z n.z r.z f g k c.z;
-}
-
-pub covers3-lowered : (a n : Triple ℤ) (r : Triple ℕ) (f g k : ℕ) → Covers3 a r f (raised3 n k) (g + k) → Covers3 a r f n g
-covers3-lowered a n r f g k c = record {
-  x = covers-lowered a.x n.x r.x f g k c.x;
-  y = covers-lowered a.y n.y r.y f g k c.y;
-  z = covers-lowered a.z n.z r.z f g k c.z;
 }
 
 -- ---- products with exact vectors at scale e
@@ -187,6 +180,3 @@ covers6-settled s n w f p g h c = record {
 
 pub covers6-raised : (a n : Spatial ℤ) (r : Spatial ℕ) (f g k : ℕ) → Covers6 a r f n g → Covers6 a r f (raised6 n k) (g + k)
 covers6-raised a n r f g k c = record { ang = covers3-raised a.ang n.ang r.ang f g k c.ang; lin = covers3-raised a.lin n.lin r.lin f g k c.lin }
-
-pub covers6-lowered : (a n : Spatial ℤ) (r : Spatial ℕ) (f g k : ℕ) → Covers6 a r f (raised6 n k) (g + k) → Covers6 a r f n g
-covers6-lowered a n r f g k c = record { ang = covers3-lowered a.ang n.ang r.ang f g k c.ang; lin = covers3-lowered a.lin n.lin r.lin f g k c.lin }

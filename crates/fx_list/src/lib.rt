@@ -3,8 +3,6 @@
 
 pub mod array;
 pub mod listing;
-#[cfg(test)]
-mod tests;
 pub mod text;
 
 pub use array::Array;

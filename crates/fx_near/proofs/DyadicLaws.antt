@@ -1,7 +1,7 @@
 -- Covering of exact numbers over one denominator, above all a power of two: what is added, multiplied, rounded or chosen.
-use Rattle.std.proofs.Common.{◌≡◌, ℕ, zero, suc, ◌+◌, ◌-◌, ◌*◌, ◌^◌, ◌<◌, ◌≤◌, ℤ, pos, ◌+ℤ◌, ◌-ℤ◌, ◌*ℤ◌, unsigned_abs, Bool, true, false, cond, subst, sym, arith, pow_pos, pow-add, mul-le-mul_right, le_of_mul-le-mul_right, le_trans}
+use Rattle.std.proofs.Common.{◌≡◌, ℕ, zero, suc, ◌+◌, ◌-◌, ◌*◌, ◌^◌, ◌<◌, ◌≤◌, ℤ, pos, ◌+ℤ◌, ◌-ℤ◌, ◌*ℤ◌, unsigned_abs, subst, sym, arith, pow_pos, pow-add, mul-le-mul_right}
 use Rattle.std.proofs.lemmas.Int.{ints, unsigned_abs-mul}
-use Rattle.fx_whole.specs.Sums.{when, sum_to, sum_ℕ_to}
+use Rattle.fx_whole.specs.Sums.{sum_to, sum_ℕ_to}
 use Rattle.fx_whole.proofs.Ring.{ring, abs-add, abs-sub}
 use Rattle.fx_num.specs.Radii.{product_width}
 use Rattle.fx_num.specs.Settled.{settled_mid, rounding_loss}
@@ -15,9 +15,6 @@ covers-zero f d h = record { positive = h; bound = zero_bound (2 ^ f) d }
   where
     zero_bound : (s d : ℕ) → unsigned_abs (pos 0 *ℤ pos s -ℤ pos 0 *ℤ pos d) ≤ 0 * d
     zero_bound s d = omega (arith, ints)
-
-pub covers-wider : (a n : ℤ) (r s f d : ℕ) → r ≤ s → Covers a r f n d → Covers a s f n d
-covers-wider a n r s f d h c = record { positive = c.positive; bound = le_trans c.bound (mul-le-mul_right d h) }
 
 add_split : (n a m b s d : ℤ) → (n +ℤ m) *ℤ s -ℤ (a +ℤ b) *ℤ d ≡ (n *ℤ s -ℤ a *ℤ d) +ℤ (m *ℤ s -ℤ b *ℤ d)
 add_split n a m b s d = simp ring (omega (arith, ints))
@@ -37,10 +34,6 @@ covers-less a b n m w v f d p q =
     let x : ℤ = n *ℤ pos (2 ^ f) -ℤ a *ℤ pos d in
     let y : ℤ = m *ℤ pos (2 ^ f) -ℤ b *ℤ pos d in
     record { positive = p.positive; bound = rw (less_split n a m b (pos (2 ^ f)) (pos d)) (omega (arith, abs-sub x y, p.bound, q.bound)) }
-
-pub covers-when : (t : Bool) (a n : ℤ) (r f d : ℕ) → Covers a r f n d → Covers (when t a) (cond t r 0) f (when t n) d
-covers-when true a n r f d c = c
-covers-when false a n r f d c = covers-zero f d c.positive
 
 pub covers-sum : (n : ℕ) (a e : ℕ → ℤ) (r : ℕ → ℕ) (f d : ℕ) → 0 < d → ((k : ℕ) → k < n → Covers (a k) (r k) f (e k) d) → Covers (sum_to n a) (sum_ℕ_to n r) f (sum_to n e) d
 covers-sum zero a e r f d h c = covers-zero f d h
@@ -72,13 +65,3 @@ covers-raised a n r f g k c =
     over : (d t : ℕ) → 0 < d → 0 < t → unsigned_abs (n *ℤ pos (2 ^ f) -ℤ a *ℤ pos d) ≤ r * d → Covers a r f (n *ℤ pos t) (d * t)
     over d t h i b =
         record { positive = omega (arith, mul-le-mul_right t h); bound = rw (raised_split n a (pos (2 ^ f)) (pos d) (pos t), unsigned_abs-mul (n *ℤ pos (2 ^ f) -ℤ a *ℤ pos d) (pos t)) (omega (arith, mul-le-mul_right t b)) }
-
--- and over a smaller one
-pub covers-lowered : (a n : ℤ) (r f g k : ℕ) → Covers a r f (n *ℤ pos (2 ^ k)) (2 ^ (g + k)) → Covers a r f n (2 ^ g)
-covers-lowered a n r f g k c = record { positive = pow_pos g; bound = under (2 ^ g) (2 ^ k) (pow_pos k) (subst (λ d. unsigned_abs ((n *ℤ pos (2 ^ k)) *ℤ pos (2 ^ f) -ℤ a *ℤ pos d) ≤ r * d) (pow-add 2 g k) c.bound) }
-  where
-    under : (d t : ℕ) → 0 < t → unsigned_abs ((n *ℤ pos t) *ℤ pos (2 ^ f) -ℤ a *ℤ pos (d * t)) ≤ r * (d * t) → unsigned_abs (n *ℤ pos (2 ^ f) -ℤ a *ℤ pos d) ≤ r * d
-    under d t h b =
-        let x : ℤ = n *ℤ pos (2 ^ f) -ℤ a *ℤ pos d in
-        let p : unsigned_abs x * t ≤ r * (d * t) = rw (← unsigned_abs-mul x (pos t), ← raised_split n a (pos (2 ^ f)) (pos d) (pos t)) b in
-        le_of_mul-le-mul_right {k = t} (omega arith) h

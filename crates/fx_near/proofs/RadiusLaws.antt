@@ -1,5 +1,5 @@
 -- How radii are computed: by halves that fit, and divisions rounded up.
-use Rattle.std.proofs.Common.{◌≡◌, ℕ, ◌+◌, ◌-◌, ◌*◌, ◌/◌, ◌%◌, ◌^◌, ◌<◌, ◌≤◌, min, bit_and, ap, ◌∙◌, arith, pow_pos, pow_mono, mul-le-mul, lt_of_mul-lt-mul_right, div-add-mod', mod-lt, ℤ, pos, unsigned_abs, SFits}
+use Rattle.std.proofs.Common.{◌≡◌, ℕ, ◌+◌, ◌-◌, ◌*◌, ◌/◌, ◌%◌, ◌^◌, ◌<◌, ◌≤◌, min, bit_and, ap, ◌∙◌, arith, pow_pos, pow_mono, pow-add, mul-le-mul, lt_of_mul-lt-mul_right, div-add-mod', ℤ, pos, unsigned_abs, SFits}
 use Rattle.std.proofs.lemmas.Int.{ints}
 use mir.Syntax.{w64}
 use Rattle.std.proofs.lemmas.Nat.{one_shl, shl_whole, and_mask, and_le_r}
@@ -56,6 +56,21 @@ shifted_parts a b s x y h e f =
     let g : y ≡ min (x + (a % 2 ^ s + b % 2 ^ s + (2 ^ s - 1)) / 2 ^ s) (2 ^ 128 - 1) = rw (one_shl s 128 (omega arith), and_mask a s, and_mask b s) at f in
     rw (ceil_parts a b (2 ^ s) (pow_pos s)) (omega arith)
 
+-- ---- widths far from the limit: the sum fits, and so does the radius
+pub sum_small : (w l s : ℕ) → 24 ≤ s → s ≤ 62 → l ≤ 2 ^ 63 → w < 2 ^ (s + 39) → w + (l + (2 ^ s - 1)) < (2 ^ 40 + 1) * 2 ^ s
+sum_small w l s a b c d =
+    let e : 2 ^ (s + 39) ≡ 2 ^ s * 2 ^ 39 = pow-add 2 s 39 in
+    let f : 2 ^ 24 ≤ 2 ^ s = pow_mono a in
+    let g : 0 < 2 ^ s = pow_pos s in
+    omega arith
+
+pub radius_small : (a s : ℕ) → s ≤ 62 → a < (2 ^ 40 + 1) * 2 ^ s → a / 2 ^ s ≤ 2 ^ 40
+radius_small a s b c =
+    let whole = div-add-mod' a (2 ^ s) in
+    let below : a / 2 ^ s * 2 ^ s < (2 ^ 40 + 1) * 2 ^ s = omega (arith, whole) in
+    let lt : a / 2 ^ s < 2 ^ 40 + 1 = lt_of_mul-lt-mul_right (2 ^ s) below in
+    omega arith
+
 -- ---- the calls
 pub scaled_small : (a w : ℤ) (f : ℕ) → SFits w64 a → f ≤ 40 → unsigned_abs w ≡ unsigned_abs a * 2 ^ f → unsigned_abs w ≤ 2 ^ 103
 scaled_small a w f h k e =
@@ -74,9 +89,3 @@ radius-le w n sum s h = bounded (ceil_div (w + rounding_loss sum s) (2 ^ s)) w (
   where
     bounded : (r w l n d : ℕ) → r * d < w + l + d → 2 * l ≤ d → w ≤ n * d → r ≤ n + 1
     bounded r w l n d p q h = let below : r * d < (n + 2) * d = omega arith in let lt : r < n + 2 = lt_of_mul-lt-mul_right d below in omega arith
-
--- it is no more than 2 above the width in units
-pub radius-quotient : (w : ℕ) (sum : ℤ) (s : ℕ) → settled_radius w (rounding_loss sum s) s ≤ w / 2 ^ s + 2
-radius-quotient w sum s =
-    let up : w ≤ (w / 2 ^ s + 1) * 2 ^ s = omega (arith, div-add-mod' w (2 ^ s), mod-lt w (pow_pos s)) in
-    omega (arith, radius-le w (w / 2 ^ s + 1) sum s up)

@@ -1,5 +1,5 @@
 // The kind of number that carries a radius.
-ghost use Rattle.std.specs.Prelude.{◌≡◌, ◌+◌, ◌-◌, ◌*◌, ◌^◌, ◌<◌, ◌≤◌, min, unsigned_abs, IfOk};
+ghost use Rattle.std.specs.Prelude.{IsTrue, ◌≡◌, ◌+◌, ◌-◌, ◌*◌, ◌^◌, ◌<◌, ◌≤◌, min, unsigned_abs, IfOk};
 ghost use Rattle.fx_whole.specs.Least.{ceil_div};
 ghost use Rattle.fx_num.specs.Radii.{radius_limit};
 ghost use Rattle.fx_num.specs.Refusals.{past};
@@ -49,8 +49,69 @@ impl Carry for Band {
     }
 
     fn cut(w: u128, lost: i128, shift: u32) -> Result<u64, Over> {
-        narrow_radius(&shifted_up(w, lost.unsigned_abs(), shift))
+        radius_of(&w, &lost.unsigned_abs(), shift)
     }
+}
+
+// `(w + lost) / 2^shift` rounded up. `Over::Radius` exactly where it passes 2^40.
+fn radius_of(w: &u128, lost: &u128, shift: u32) -> Result<u64, Over>
+    requires { shift ≤ 126 }
+    ensures rad { IfOk result (λ r. r ≡ settled_radius w.now lost.now shift) }
+    ensures small { IfOk result (λ r. r ≤ radius_limit) }
+    ensures first { refusal_of result
+        ≡ past radius_limit (settled_radius w.now lost.now shift) Over.Radius }
+{
+    if is_small(w, lost, shift) {
+        Ok(small_radius(w, lost, shift))
+    } else {
+        narrow_radius(&shifted_up(*w, *lost, shift))
+    }
+}
+
+// Whether the width is less than half of the limit's, so that the sum fits and no limit is passed.
+// The loss and the power of two then need no more than 64 bits.
+fn is_small(w: &u128, lost: &u128, shift: u32) -> bool
+    ensures low { IsTrue result → 24 ≤ shift }
+    ensures high { IsTrue result → shift ≤ 62 }
+    ensures lost { IsTrue result → lost.now ≤ 2 ^ 63 }
+    ensures width { IsTrue result → w.now < 2 ^ (shift + 39) }
+{
+    24 <= shift && shift <= 62 && *lost <= 1 << 63 && *w >> (shift + 39) == 0
+}
+
+// `radius_of` where `is_small` holds: one sum and one shift.
+#[tactic(auto, using(crate::proofs::RadiusLaws::radius_small))]
+fn small_radius(w: &u128, lost: &u128, shift: u32) -> u64
+    requires low { 24 ≤ shift }
+    requires high { shift ≤ 62 }
+    requires lost { lost.now ≤ 2 ^ 63 }
+    requires width { w.now < 2 ^ (shift + 39) }
+    ensures value { result ≡ settled_radius w.now lost.now shift }
+    ensures small { result ≤ radius_limit }
+{
+    (small_sum(w, lost, shift) >> shift) as u64
+}
+
+// `lost + 2^shift - 1`, in 64 bits.
+fn plus_mask(lost: &u128, shift: u32) -> u64
+    requires high { shift ≤ 62 }
+    requires lost { lost.now ≤ 2 ^ 63 }
+    ensures { result ≡ lost.now + (2 ^ shift - 1) }
+{
+    *lost as u64 + ((1u64 << shift) - 1)
+}
+
+// `w + lost + 2^shift - 1`, where `is_small` holds.
+#[tactic(auto, using(crate::proofs::RadiusLaws::sum_small))]
+fn small_sum(w: &u128, lost: &u128, shift: u32) -> u128
+    requires low { 24 ≤ shift }
+    requires high { shift ≤ 62 }
+    requires lost { lost.now ≤ 2 ^ 63 }
+    requires width { w.now < 2 ^ (shift + 39) }
+    ensures value { result ≡ w.now + lost.now + (2 ^ shift - 1) }
+    ensures small { result < (2 ^ 40 + 1) * 2 ^ shift }
+{
+    *w + u128::from(plus_mask(lost, shift))
 }
 
 // `size * radius`, where the caller shows that it fits.

@@ -14,6 +14,3 @@ pub use laws::{
 };
 pub use quotient::div_near;
 pub use rooting::root_near;
-
-#[cfg(test)]
-mod tests;

@@ -8,6 +8,3 @@ pub mod print;
 
 pub use decimal::{DecimalFault, read_decimal};
 pub use print::{print_decimal, print_raw, send_decimal};
-
-#[cfg(test)]
-mod tests;

@@ -22,6 +22,7 @@ pub fn print_raw<S: Sink>(n: i128, sink: &mut S) -> Result<(), Failed>
     ensures err { OnErr result (GrewPart (S.holds sink.old) (signed_decimal n)
         (S.holds sink.new)) }
     ensures cause { OnErr result (Rose (S.faults sink.old) (S.faults sink.new)) }
+    ensures calm { OnOk result (S.faults sink.new ≡ S.faults sink.old) }
     ensures later { S.faults sink.old ≤ S.faults sink.new }
 {
     let mut buffer = Buffer::new();
@@ -115,6 +116,7 @@ pub fn print_decimal<S: Sink>(x: Fix<32>, places: u32, sink: &mut S) -> Result<(
     ensures err { OnErr result (GrewPart (S.holds sink.old)
         (spec.decimal_text places x.mid) (S.holds sink.new)) }
     ensures cause { OnErr result (Rose (S.faults sink.old) (S.faults sink.new)) }
+    ensures calm { OnOk result (S.faults sink.new ≡ S.faults sink.old) }
     ensures later { S.faults sink.old ≤ S.faults sink.new }
 {
     let mut page = Page::new();

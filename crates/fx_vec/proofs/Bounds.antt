@@ -6,7 +6,7 @@ use Rattle.fx_whole.proofs.NearestLaws.{nearest-within}
 use Rattle.fx_num.specs.Settled.{settled_mid}
 use Rattle.fx_vec.specs.Settling.{stretched, moved, moved_one, along}
 use Rattle.fx_num.specs.Radii.{product_width}
-use Rattle.fx_vec.specs.Vectors.{Triple, dot, cross, plus, minus}
+use Rattle.fx_vec.specs.Vectors.{Triple, dot, plus, minus}
 use Rattle.fx_vec.specs.Sizes.{Within, Below, dot_size, cross_size}
 use Rattle.fx_vec.specs.Widths.{dot_width, cross_width}
 
@@ -20,15 +20,6 @@ dot-size a b =
 
 minor-size : (a b c d : ℤ) → unsigned_abs (a *ℤ d -ℤ b *ℤ c) ≤ unsigned_abs a * unsigned_abs d + unsigned_abs b * unsigned_abs c
 minor-size a b c d = omega (arith, abs-sub (a *ℤ d) (b *ℤ c), unsigned_abs-mul a d, unsigned_abs-mul b c)
-
-pub cross-size_x : (a b : Triple ℤ) → unsigned_abs (cross a b).x ≤ (cross_size a b).x
-cross-size_x a b = minor-size a.y a.z b.y b.z
-
-pub cross-size_y : (a b : Triple ℤ) → unsigned_abs (cross a b).y ≤ (cross_size a b).y
-cross-size_y a b = minor-size a.z a.x b.z b.x
-
-pub cross-size_z : (a b : Triple ℤ) → unsigned_abs (cross a b).z ≤ (cross_size a b).z
-cross-size_z a b = minor-size a.x a.y b.x b.y
 
 -- ---- sizes, for coordinates of a at most m and of b at most n
 pub dot_size-le : (a b : Triple ℤ) (m n : ℕ) → Within a m → Within b n → dot_size a b ≤ 3 * (m * n)

@@ -26,7 +26,3 @@ same_inertia a b x y z m k =
 
 abbrev four : ℤ → ℤ → ℤ → ℤ → Quaternion
 four w x y z = record { w = w; x = x; y = y; z = z }
-
-pub same_quaternion : (a b : Quaternion) → a.w ≡ b.w → a.x ≡ b.x → a.y ≡ b.y → a.z ≡ b.z → a ≡ b
-same_quaternion a b e f g h =
-    ap (λ w. four w a.x a.y a.z) e ∙ ap (λ x. four b.w x a.y a.z) f ∙ ap (λ y. four b.w b.x y a.z) g ∙ ap (λ z. four b.w b.x b.y z) h

@@ -7,7 +7,7 @@ use Rattle.fx_whole.proofs.Ring.{ring}
 use Rattle.fx_vec.specs.Vectors.{Triple, no_vector, dot, cross, plus, minus, times}
 use Rattle.fx_vec.specs.Spatial.{Spatial, Inertia, plus6, no_spatial, plus_inertia, no_inertia, pair, turned, inertia_times}
 use Rattle.fx_vec.specs.Sizes.{plus_size, no_size, plus6_size, no_size6}
-use Rattle.fx_vec.specs.Sums.{triples, triple_sizes, vectors, sizes, inertias}
+use Rattle.fx_vec.specs.Sums.{vectors, sizes, inertias}
 use Rattle.fx_vec.proofs.Same.{same3, same6, same_inertia}
 
 -- ---- the order and the grouping don't matter
@@ -46,12 +46,6 @@ size-swap a b = same3 (plus_size a b) (plus_size b a) (swap_ℕ a.x b.x) (swap_�
 
 size-group : (a b c : Triple ℕ) → plus_size (plus_size a b) c ≡ plus_size a (plus_size b c)
 size-group a b c = same3 (plus_size (plus_size a b) c) (plus_size a (plus_size b c)) (group_ℕ a.x b.x c.x) (group_ℕ a.y b.y c.y) (group_ℕ a.z b.z c.z)
-
-pub triples-is_adding : IsAdding triples
-triples-is_adding = record { alone = plus-alone; swap = plus-swap; group = plus-group }
-
-pub triple_sizes-is_adding : IsAdding triple_sizes
-triple_sizes-is_adding = record { alone = size-alone; swap = size-swap; group = size-group }
 
 pub vectors-is_adding : IsAdding vectors
 vectors-is_adding = record {

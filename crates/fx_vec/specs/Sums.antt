@@ -1,15 +1,8 @@
 -- Vectors, spatial vectors, their sizes and inertias as things that are added up. The usual definitions.
 use Rattle.std.specs.Prelude.{ℕ, ℤ}
 use Rattle.fx_whole.specs.Adding.{Adding}
-use Rattle.fx_vec.specs.Vectors.{Triple, no_vector, plus}
 use Rattle.fx_vec.specs.Spatial.{Spatial, Inertia, plus6, no_spatial, plus_inertia, no_inertia}
-use Rattle.fx_vec.specs.Sizes.{plus_size, no_size, plus6_size, no_size6}
-
-abbrev pub triples : Adding (Triple ℤ)
-triples = record { empty = no_vector; plus = plus }
-
-abbrev pub triple_sizes : Adding (Triple ℕ)
-triple_sizes = record { empty = no_size; plus = plus_size }
+use Rattle.fx_vec.specs.Sizes.{plus6_size, no_size6}
 
 -- spatial vectors
 abbrev pub vectors : Adding (Spatial ℤ)

@@ -1,10 +1,10 @@
 // One product added to an exact sum, or taken from it, under a condition that is linear in sizes.
-ghost use Rattle.std.specs.Prelude.{◌≡◌, ◌+◌, ◌*◌, ◌^◌, ◌<◌, ◌≤◌, pos, ◌+ℤ◌, ◌-ℤ◌, ◌*ℤ◌, unsigned_abs};
+ghost use Rattle.std.specs.Prelude.{true, ◌≡◌, ◌+◌, ◌*◌, ◌^◌, ◌<◌, ◌≤◌, pos, ◌+ℤ◌, ◌-ℤ◌, ◌*ℤ◌, unsigned_abs};
 ghost use Rattle.fx_num.specs.Radii.{product_width};
 ghost use Rattle.fx_vec.specs.Widths.{scaled_width};
 
 use fx_num::{Carry, Num, Number, Sum, mul_into};
-use fx_whole::{difference, product, sum, wide_product};
+use fx_whole::{difference, narrow, product, sum, wide_product};
 
 /// Adds `a b` to `out`.
 pub(crate) fn add_product<K: Carry, const A: u32, const B: u32, const P: u32>(
@@ -47,6 +47,15 @@ pub(crate) fn take_product<K: Carry, const A: u32, const B: u32, const P: u32>(
     out.rad = K::join(out.rad, K::product(a.mid, a.rad, i128::from(b.mid), b.rad));
 }
 
+/// `a`. Where `SHORT` says that it needs no more than 64 bits, the compiler learns it, and a product
+/// is one multiplication.
+fn factor<const SHORT: bool>(a: &i128) -> i128
+    requires { SHORT ≡ true → unsigned_abs a.now < 2 ^ 63 }
+    ensures { result ≡ a.now }
+{
+    if SHORT { i128::from(narrow(*a)) } else { *a }
+}
+
 /// `a b`, where the caller shows that it fits.
 fn exact_product<R, const B: u32>(a: &i128, b: &Number<R, B>) -> i128
     requires { unsigned_abs a.now * unsigned_abs b.now.mid < 2 ^ 127 }
@@ -57,11 +66,12 @@ fn exact_product<R, const B: u32>(a: &i128, b: &Number<R, B>) -> i128
 }
 
 /// Adds `a b` to `out`, where `a` is exact.
-pub(crate) fn add_scaled<K: Carry, const B: u32, const P: u32>(
+pub(crate) fn add_scaled<K: Carry, const B: u32, const P: u32, const SHORT: bool>(
     a: &i128,
     b: &Num<K, B>,
     out: &mut Sum<K, P>,
 )
+    requires short { SHORT ≡ true → unsigned_abs a.now < 2 ^ 63 }
     requires fits { unsigned_abs out.old.mid
         + unsigned_abs a.now * unsigned_abs b.now.mid < 2 ^ 127 }
     requires width { K.wide_width out.old.rad + scaled_width a.now (K.width b.now.rad) < 2 ^ 128 }
@@ -71,16 +81,18 @@ pub(crate) fn add_scaled<K: Carry, const B: u32, const P: u32>(
     ensures rad { K.wide_width out.new.rad
         ≡ K.wide_width out.old.rad + scaled_width a.now (K.width b.now.rad) }
 {
-    out.mid = sum(out.mid, exact_product(a, b));
-    out.rad = K::join(out.rad, K::product(b.mid, b.rad, *a, K::none()));
+    let a = factor::<SHORT>(a);
+    out.mid = sum(out.mid, exact_product(&a, b));
+    out.rad = K::join(out.rad, K::product(b.mid, b.rad, a, K::none()));
 }
 
 /// Takes `a b` from `out`, where `a` is exact.
-pub(crate) fn take_scaled<K: Carry, const B: u32, const P: u32>(
+pub(crate) fn take_scaled<K: Carry, const B: u32, const P: u32, const SHORT: bool>(
     a: &i128,
     b: &Num<K, B>,
     out: &mut Sum<K, P>,
 )
+    requires short { SHORT ≡ true → unsigned_abs a.now < 2 ^ 63 }
     requires fits { unsigned_abs out.old.mid
         + unsigned_abs a.now * unsigned_abs b.now.mid < 2 ^ 127 }
     requires width { K.wide_width out.old.rad + scaled_width a.now (K.width b.now.rad) < 2 ^ 128 }
@@ -90,6 +102,7 @@ pub(crate) fn take_scaled<K: Carry, const B: u32, const P: u32>(
     ensures rad { K.wide_width out.new.rad
         ≡ K.wide_width out.old.rad + scaled_width a.now (K.width b.now.rad) }
 {
-    out.mid = difference(out.mid, exact_product(a, b));
-    out.rad = K::join(out.rad, K::product(b.mid, b.rad, *a, K::none()));
+    let a = factor::<SHORT>(a);
+    out.mid = difference(out.mid, exact_product(&a, b));
+    out.rad = K::join(out.rad, K::product(b.mid, b.rad, a, K::none()));
 }

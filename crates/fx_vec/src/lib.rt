@@ -13,11 +13,8 @@ pub mod vector;
 
 pub use cross::cross_into;
 pub use dot::{dot_into, pair_into};
-pub use inertia::{Inertia10, add10, inertia_into};
+pub use inertia::{Inertia10, add10, inertia_into, is_short, short_inertia_into};
 pub use plain::{minus, move_along, plus, project, stretch};
 pub use settling::{settle3, settle6};
 pub use spatial::{add3, add6, force_cross_into, motion_cross_into, times6_into};
 pub use vector::{M3, Q4, Sp6, Sum3, Sum6, Total3, Total6, V3, Vector3, Vector6};
-
-#[cfg(test)]
-mod tests;

@@ -1,6 +1,5 @@
 // Sums of plain vectors, and points moved along a direction. Each number is exact, or rounded once.
 ghost use Rattle.std.specs.Prelude.{◌≡◌, ℕ, ◌+◌, ◌*◌, ◌^◌, ◌≤◌, ◌+ℤ◌, ◌-ℤ◌, ◌*ℤ◌, pos, unsigned_abs};
-ghost use Rattle.fx_num.specs.Settled.{settled_mid};
 ghost use Rattle.fx_vec.specs.Vectors as spec;
 ghost use Rattle.fx_vec.specs.Settling as settling;
 ghost use Rattle.fx_vec.specs.Sizes.{Within};
@@ -8,32 +7,8 @@ ghost use Rattle.fx_vec.specs.Views.{mids};
 
 use crate::dot::dot_into;
 use crate::vector::{V3, Vector3};
-use fx_num::{Fix, Number, Plain, none};
-use fx_whole::{narrow, nearest_shift, product, scale_up, sum};
-
-/// `a + b`.
-fn add_one<const F: u32>(a: &Fix<F>, b: &Fix<F>) -> Fix<F>
-    requires a { unsigned_abs a.now.mid ≤ 2 ^ 61 }
-    requires b { unsigned_abs b.now.mid ≤ 2 ^ 61 }
-    ensures { result.mid ≡ a.now.mid +ℤ b.now.mid }
-{
-    Number {
-        mid: a.mid + b.mid,
-        rad: (),
-    }
-}
-
-/// `a - b`.
-fn subtract_one<const F: u32>(a: &Fix<F>, b: &Fix<F>) -> Fix<F>
-    requires a { unsigned_abs a.now.mid ≤ 2 ^ 61 }
-    requires b { unsigned_abs b.now.mid ≤ 2 ^ 61 }
-    ensures { result.mid ≡ a.now.mid -ℤ b.now.mid }
-{
-    Number {
-        mid: a.mid - b.mid,
-        rad: (),
-    }
-}
+use fx_num::{Fix, Plain, add, none, round, rounded_product, rounded_sum, subtract};
+use fx_whole::{product, scale_up};
 
 /// `a + b`, exactly.
 pub fn plus<const F: u32>(a: &V3<Plain, F>, b: &V3<Plain, F>) -> V3<Plain, F>
@@ -47,9 +22,9 @@ pub fn plus<const F: u32>(a: &V3<Plain, F>, b: &V3<Plain, F>) -> V3<Plain, F>
         → Within (mids result) (m + n) }
 {
     Vector3 {
-        x: add_one(&a.x, &b.x),
-        y: add_one(&a.y, &b.y),
-        z: add_one(&a.z, &b.z),
+        x: add(&a.x, &b.x),
+        y: add(&a.y, &b.y),
+        z: add(&a.z, &b.z),
     }
 }
 
@@ -65,18 +40,10 @@ pub fn minus<const F: u32>(a: &V3<Plain, F>, b: &V3<Plain, F>) -> V3<Plain, F>
         → Within (mids result) (m + n) }
 {
     Vector3 {
-        x: subtract_one(&a.x, &b.x),
-        y: subtract_one(&a.y, &b.y),
-        z: subtract_one(&a.z, &b.z),
+        x: subtract(&a.x, &b.x),
+        y: subtract(&a.y, &b.y),
+        z: subtract(&a.z, &b.z),
     }
-}
-
-/// `n` at scale 64, rounded to scale 32.
-fn round(n: &i128) -> Fix<32>
-    requires { unsigned_abs n.now ≤ 2 ^ 94 }
-    ensures { result.mid ≡ settled_mid n.now 32 }
-{
-    Fix::from_raw(narrow(nearest_shift(*n, 32)))
 }
 
 /// `n k`, exactly, for a direction `n`.
@@ -98,15 +65,6 @@ fn widen(c: &Fix<32>) -> i128
     scale_up(c.mid, 32)
 }
 
-/// `n k`, rounded.
-fn stretch_one(n: &Fix<32>, k: &Fix<32>) -> Fix<32>
-    requires n { unsigned_abs n.now.mid ≤ 2 ^ 34 }
-    requires k { unsigned_abs k.now.mid ≤ 2 ^ 59 }
-    ensures { result.mid ≡ settled_mid (n.now.mid *ℤ k.now.mid) 32 }
-{
-    round(&directed(n, k))
-}
-
 /// `c + n k`, rounded once.
 fn move_one(c: &Fix<32>, n: &Fix<32>, k: &Fix<32>) -> Fix<32>
     requires c { unsigned_abs c.now.mid ≤ 2 ^ 61 }
@@ -114,7 +72,7 @@ fn move_one(c: &Fix<32>, n: &Fix<32>, k: &Fix<32>) -> Fix<32>
     requires k { unsigned_abs k.now.mid ≤ 2 ^ 59 }
     ensures { result.mid ≡ settling.moved_one c.now.mid n.now.mid k.now.mid }
 {
-    round(&sum(widen(c), directed(n, k)))
+    rounded_sum(&widen(c), &directed(n, k))
 }
 
 /// `k n`: the direction `n` times a length, each number rounded once.
@@ -127,9 +85,9 @@ pub fn stretch(n: &V3<Plain, 32>, k: &Fix<32>) -> V3<Plain, 32>
         → Within (mids result) (2 * h) }
 {
     Vector3 {
-        x: stretch_one(&n.x, k),
-        y: stretch_one(&n.y, k),
-        z: stretch_one(&n.z, k),
+        x: rounded_product(&n.x, k),
+        y: rounded_product(&n.y, k),
+        z: rounded_product(&n.z, k),
     }
 }
 

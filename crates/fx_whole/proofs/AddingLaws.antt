@@ -1,5 +1,5 @@
 -- The laws of `sum_in` and `when_in`.
-use Rattle.std.proofs.Common.{◌≡◌, ◌≢◌, ℕ, zero, suc, ◌+◌, ◌-◌, ◌<◌, ◌≤◌, Bool, true, false, ◌&&◌, ℤ, ◌+ℤ◌, refl, sym, ap, ap₂, ◌∙◌, arith, add-one, add-zero, add-suc, inl, inr}
+use Rattle.std.proofs.Common.{◌≡◌, ◌≢◌, ℕ, zero, suc, ◌+◌, ◌-◌, ◌<◌, ◌≤◌, Bool, true, false, ℤ, ◌+ℤ◌, refl, sym, ap, ap₂, ◌∙◌, arith, add-one, add-zero, add-suc, inl, inr}
 use Rattle.std.proofs.lemmas.Bool.{cases_eq}
 use lib.IntN.{+ℤ_idr, +ℤ_comm, +ℤ_assoc}
 use Rattle.fx_whole.specs.Adding.{Adding, IsAdding, sum_in, when_in, integers, naturals}
@@ -88,10 +88,6 @@ module _ {A : Type 0} (m : Adding A) (laws : IsAdding m) where
         | inr e ↦ ap₂ (λ x y. m.plus x y) (sum_in-single n j f (omega arith) (λ k p. z k (omega arith))) (z n (omega arith) (omega arith)) ∙ laws.alone (f j)
       ]
 
-  pub when_in-plus : (b : Bool) (x y : A) → when_in m b (m.plus x y) ≡ m.plus (when_in m b x) (when_in m b y)
-  when_in-plus true x y = refl
-  when_in-plus false x y = sym (laws.alone m.empty)
-
   pub when_in-sum : (b : Bool) (n : ℕ) (f : ℕ → A) → when_in m b (sum_in m n f) ≡ sum_in m n (λ k. when_in m b (f k))
   when_in-sum true n f = refl
   when_in-sum false n f = sym (sum_in-none n (λ k. m.empty) (λ k p. refl))
@@ -107,14 +103,6 @@ pub when_in-empty : {A : Type 0} → (m : Adding A) (b : Bool) → when_in m b m
 when_in-empty m true = refl
 when_in-empty m false = refl
 
-pub when_in-and : {A : Type 0} → (m : Adding A) (a b : Bool) (x : A) → when_in m (a && b) x ≡ when_in m a (when_in m b x)
-when_in-and m true b x = refl
-when_in-and m false b x = refl
-
-pub when_in-swap : {A : Type 0} → (m : Adding A) (a b : Bool) (x : A) → when_in m a (when_in m b x) ≡ when_in m b (when_in m a x)
-when_in-swap m true b x = refl
-when_in-swap m false b x = sym (when_in-empty m b)
-
 -- a map that keeps the empty sum
 pub when_in-map : {A B : Type 0} → (m : Adding A) (p : Adding B) (h : A → B) → h m.empty ≡ p.empty → (b : Bool) (x : A) → h (when_in m b x) ≡ when_in p b (h x)
 when_in-map m p h e true x = refl
@@ -123,9 +111,6 @@ when_in-map m p h e false x = e
 -- ---- of integers and of naturals
 pub integers-is_adding : IsAdding integers
 integers-is_adding = record { alone = λ a. +ℤ_idr a; swap = λ a b. +ℤ_comm a b; group = λ a b c. +ℤ_assoc a b c }
-
-pub naturals-is_adding : IsAdding naturals
-naturals-is_adding = record { alone = λ a. omega arith; swap = λ a b. omega arith; group = λ a b c. omega arith }
 
 pub sum_in-integers : (n : ℕ) (f : ℕ → ℤ) → sum_in integers n f ≡ sum_to n f
 sum_in-integers zero f = refl

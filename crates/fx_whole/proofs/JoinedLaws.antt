@@ -59,11 +59,3 @@ grow-none start f = sym (ap (λ x. start ++ x) (joined-none f) ∙ append-nil st
 pub grow-more : {A : Type 0} → (start now new : List A) (i : ℕ) (f : ℕ → List A) → now ≡ start ++ joined i f → new ≡ now ++ f i → new ≡ start ++ joined (i + 1) f
 grow-more start now new i f h e =
     e ∙ ap (λ x. x ++ f i) h ∙ append_assoc start (joined i f) (f i) ∙ ap (λ x. start ++ x) (sym (joined-more i f))
-
--- what the next part comes to is within what all come to
-pub grow-within : {A : Type 0} → (start now : List A) (i n : ℕ) (f : ℕ → List A) → now ≡ start ++ joined i f → i < n
-    → length now + length (f i) ≤ length start + length (joined n f)
-grow-within start now i n f h l =
-    let whole : length now ≡ length start + length (joined i f) = ap length h ∙ length-append start (joined i f) in
-    let more : length (joined (i + 1) f) ≡ length (joined i f) + length (f i) = ap length (joined-more i f) ∙ length-append (joined i f) (f i) in
-    omega (arith, whole, more, joined-within (i + 1) n f (omega arith))

@@ -1,9 +1,6 @@
 -- The laws of least numbers.
-use Rattle.std.proofs.Common.{◌≡◌, ℕ, ◌+◌, ◌-◌, ◌*◌, ◌/◌, ◌%◌, ◌<◌, ◌≤◌, arith, le_antisymm, div-add-mod', mod-lt, lt_of_mul-lt-mul_right}
+use Rattle.std.proofs.Common.{◌≡◌, ℕ, ◌+◌, ◌-◌, ◌*◌, ◌/◌, ◌%◌, ◌<◌, ◌≤◌, arith, div-add-mod', mod-lt, lt_of_mul-lt-mul_right}
 use Rattle.fx_whole.specs.Least.{IsLeast, ceil_div}
-
-pub least-unique : (P : ℕ → Type 0) (m n : ℕ) → IsLeast P m → IsLeast P n → m ≡ n
-least-unique P m n h k = le_antisymm (h.least n k.holds) (k.least m h.holds)
 
 pub ceil_div-least : (a b : ℕ) → 0 < b → IsLeast (λ q. a ≤ q * b) (ceil_div a b)
 ceil_div-least a b h =

@@ -1,10 +1,8 @@
 -- The laws of `nearest`.
-use Rattle.std.proofs.Common.{◌≡◌, ℕ, zero, suc, ◌+◌, ◌-◌, ◌*◌, ◌/◌, ◌%◌, ◌^◌, ◌<◌, ◌≤◌, ℤ, pos, negsuc, ◌+ℤ◌, ◌-ℤ◌, ◌*ℤ◌, neg_ℤ, ◌<ℤ◌, ◌≤ℤ◌, unsigned_abs, refl, sym, ap, ◌∙◌, subst, arith, div-add-mod', mod-lt, lt_of_mul-lt-mul_right, mul-le-mul_right, le_antisymm, le_of_mul-le-mul_right}
-use Rattle.std.proofs.lemmas.Int.{ints, by_lt_z, unsigned_abs-mul}
+use Rattle.std.proofs.Common.{◌≡◌, ℕ, zero, suc, ◌+◌, ◌-◌, ◌*◌, ◌/◌, ◌%◌, ◌<◌, ◌≤◌, ℤ, pos, negsuc, ◌+ℤ◌, ◌-ℤ◌, ◌*ℤ◌, neg_ℤ, ◌<ℤ◌, ◌≤ℤ◌, unsigned_abs, refl, sym, ap, subst, arith, div-add-mod', mod-lt, lt_of_mul-lt-mul_right, mul-le-mul_right}
+use Rattle.std.proofs.lemmas.Int.{ints, by_lt_z}
 use Rattle.fx_whole.specs.Nearest.{with_sign, nearest, IsNearest}
-use lib.IntN.{zero-*ℤ}
-use Rattle.fx_whole.proofs.Powers.{pow-add_ℤ, pow_positive}
-use Rattle.fx_whole.proofs.Ring.{mul_step, mul_pos, mul_mono, *ℤ_assoc, neg_ℤ-*ℤ, *ℤ-pos_one, *ℤ_distrib_right}
+use Rattle.fx_whole.proofs.Ring.{mul_step, neg_ℤ-*ℤ}
 
 -- ---- the formula
 -- where the divisor is positive
@@ -156,43 +154,10 @@ nearest-neg n d =
 pub nearest-multiple : (m d : ℤ) → pos 0 <ℤ d → nearest (m *ℤ d) d ≡ m
 nearest-multiple m d h = sym (nearest-unique (m *ℤ d) d m h (record { close = omega (arith, ints); tie = λ t. omega (arith, ints) }))
 
-pub nearest-one : (n : ℤ) → nearest n (pos 1) ≡ n
-nearest-one n = ap (λ x. nearest x (pos 1)) (sym (*ℤ-pos_one n)) ∙ nearest-multiple n (pos 1) (omega (arith, ints))
-
 pub nearest-zero : (d : ℤ) → nearest (pos 0) d ≡ pos 0
 nearest-zero d =
     let p : unsigned_abs (nearest (pos 0) d) ≤ 0 = nearest-size (pos 0) d in
     omega (arith, ints)
-
-pub nearest-scale : (n d k : ℤ) → pos 0 <ℤ k → nearest (n *ℤ k) (d *ℤ k) ≡ nearest n d
-nearest-scale n d k h =
-    by_lt_z (pos 0) d
-    (λ p. sym (nearest-unique (n *ℤ k) (d *ℤ k) (nearest n d) (mul_pos d k p h) (scaled (nearest n d) (nearest-is_nearest n d p))))
-    (λ p. rw (nearest-none n d p, nearest-none (n *ℤ k) (d *ℤ k) (not_positive p)) refl)
-  where
-    not_positive : d ≤ℤ pos 0 → (d *ℤ k) ≤ℤ pos 0
-    not_positive p = let q : (d *ℤ k) ≤ℤ (pos 0 *ℤ k) = mul_mono d (pos 0) k (omega (arith, ints)) p in omega (arith, ints, zero-*ℤ k)
-
-    off : (m : ℤ) → unsigned_abs (n *ℤ k -ℤ m *ℤ (d *ℤ k)) ≡ unsigned_abs (n -ℤ m *ℤ d) * unsigned_abs k
-    off m = ap unsigned_abs (ap (λ x. n *ℤ k -ℤ x) (sym (*ℤ_assoc m d k)) ∙ sym (*ℤ_distrib_right n (neg_ℤ (m *ℤ d)) k ∙ ap (λ x. n *ℤ k +ℤ x) (neg_ℤ-*ℤ (m *ℤ d) k))) ∙ unsigned_abs-mul (n -ℤ m *ℤ d) k
-
-    times : (a b c u v : ℕ) → 0 < c → 2 * a ≤ b → (2 * a ≡ b → u ≤ v) → (2 * (a * c) ≤ b * c) × (2 * (a * c) ≡ b * c → u * c ≤ v * c)
-    times a b c u v p q t = (omega (arith, mul-le-mul_right c q), λ e. mul-le-mul_right c (t (cancel e)))
-      where
-        cancel : 2 * (a * c) ≡ b * c → 2 * a ≡ b
-        cancel e = le_antisymm q (le_of_mul-le-mul_right {k = c} (omega arith) p)
-
-    scaled : (m : ℤ) → IsNearest n d m → IsNearest (n *ℤ k) (d *ℤ k) m
-    scaled m near =
-        let t = times (unsigned_abs (n -ℤ m *ℤ d)) (unsigned_abs d) (unsigned_abs k) (unsigned_abs (m *ℤ d)) (unsigned_abs n) (omega (arith, ints)) near.close near.tie in
-        record {
-          close = rw (off m, unsigned_abs-mul d k) t.0;
-          tie = rw (off m, unsigned_abs-mul d k, unsigned_abs-mul n k, ← *ℤ_assoc m d k, unsigned_abs-mul (m *ℤ d) k) t.1;
-        }
-
--- the same factor 2^k in both
-pub nearest-scale_power : (n : ℤ) (j k : ℕ) → nearest (n *ℤ pos (2 ^ k)) (pos (2 ^ (j + k))) ≡ nearest n (pos (2 ^ j))
-nearest-scale_power n j k = ap (nearest (n *ℤ pos (2 ^ k))) (pow-add_ℤ j k) ∙ nearest-scale n (pos (2 ^ j)) (pos (2 ^ k)) (pow_positive k)
 
 -- ---- as the code has it: from the sizes a of n and b of d
 pub nearest-from_sizes : (n d m : ℤ) (a b q : ℕ) → pos 0 <ℤ d → a ≡ unsigned_abs n → b ≡ unsigned_abs d → q ≡ (2 * a + (b - 1)) / (2 * b) → m ≡ with_sign n q → m ≡ nearest n d

@@ -1,5 +1,5 @@
 -- Powers of two, as far as std lacks them.
-use Rattle.std.proofs.Common.{◌≡◌, ℕ, suc, ◌+◌, ◌-◌, ◌*◌, ◌%◌, ◌^◌, ◌<◌, ◌≤◌, ◌*ℤ◌, ◌<ℤ◌, ℤ, pos, to_z, ap, ◌∙◌, arith, pow_pos, pow-add, pow_mono, pow-suc, mul-le-mul}
+use Rattle.std.proofs.Common.{◌≡◌, ℕ, ◌+◌, ◌-◌, ◌*◌, ◌%◌, ◌^◌, ◌<◌, ◌≤◌, ◌*ℤ◌, ◌<ℤ◌, ℤ, pos, to_z, ap, ◌∙◌, arith, pow_pos, pow-add, pow_mono, mul-le-mul}
 use Rattle.std.proofs.lemmas.Int.{ints, to_z_pos}
 use Rattle.std.proofs.lemmas.Nat.{pow_below, one_shl}
 use mir.Syntax.{w128}
@@ -11,9 +11,6 @@ power_read k r h e = e ∙ ap (to_z w128) (one_shl k 128 (omega arith)) ∙ to_z
 -- a number of 64 bits times a power up to 2^63
 pub scaled_fits : (a k : ℕ) → a ≤ 2 ^ 63 → k ≤ 63 → a * 2 ^ k < 2 ^ 127
 scaled_fits a k h l = omega (arith, mul-le-mul h (pow_mono l))
-
-pub pow-double : (k : ℕ) → 2 ^ suc k ≡ 2 * 2 ^ k
-pow-double k = omega (arith, pow-suc 2 k)
 
 -- 2^k, as a part of a higher power
 pub pow-split : (j k : ℕ) → j ≤ k → 2 ^ k ≡ 2 ^ j * 2 ^ (k - j)

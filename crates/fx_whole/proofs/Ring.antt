@@ -34,9 +34,6 @@ pub *ℤ_assoc : (a b c : ℤ) → (a *ℤ b) *ℤ c ≡ a *ℤ (b *ℤ c)
 pub *ℤ_left_comm : (a b c : ℤ) → a *ℤ (b *ℤ c) ≡ b *ℤ (a *ℤ c)
 *ℤ_left_comm a b c = sym (*ℤ_assoc a b c) ∙ ap (λ x. x *ℤ c) (*ℤ_comm a b) ∙ *ℤ_assoc b a c
 
-pub *ℤ_right_comm : (a b c : ℤ) → (a *ℤ b) *ℤ c ≡ (a *ℤ c) *ℤ b
-*ℤ_right_comm a b c = *ℤ_assoc a b c ∙ ap (λ x. a *ℤ x) (*ℤ_comm b c) ∙ sym (*ℤ_assoc a c b)
-
 pub *ℤ-pos_one : (a : ℤ) → a *ℤ pos 1 ≡ a
 *ℤ-pos_one a = omega (arith, ints)
 
@@ -111,12 +108,6 @@ lt_of_mul a b k h l = by_lt_z a b (λ p. p) (λ p. absurd (turned (mul_mono b a 
     turned : (b *ℤ k) ≤ℤ (a *ℤ k) → ⊥
     turned p = omega (arith, ints)
 
-pub same_of_mul : (a b k : ℤ) → pos 0 <ℤ k → a *ℤ k ≡ b *ℤ k → a ≡ b
-same_of_mul a b k h e =
-    let le : a ≤ℤ b = le_of_mul a b k h (omega (arith, ints)) in
-    let ge : b ≤ℤ a = le_of_mul b a k h (omega (arith, ints)) in
-    omega (arith, ints)
-
 -- both factors grow, from 0 up
 pub mul_mono_both : (a b c d : ℤ) → pos 0 ≤ℤ a → a ≤ℤ b → pos 0 ≤ℤ c → c ≤ℤ d → (a *ℤ c) ≤ℤ (b *ℤ d)
 mul_mono_both a b c d h l k m =
@@ -147,16 +138,6 @@ abs_mul_le a b m n h k = rw (unsigned_abs-mul a b) (mul-le-mul h k)
 pub abs_nonneg : (a : ℤ) → pos 0 ≤ℤ a → pos (unsigned_abs a) ≡ a
 abs_nonneg a h = omega (arith, ints)
 
-pub abs_zero : (a : ℤ) → unsigned_abs a ≡ 0 → a ≡ pos 0
-abs_zero a h = omega (arith, ints)
-
--- |a| <= n, and -n <= a <= n
-pub abs_bounds : (a : ℤ) (n : ℕ) → unsigned_abs a ≤ n → (neg_ℤ (pos n) ≤ℤ a) × (a ≤ℤ pos n)
-abs_bounds a n h = (omega (arith, ints), omega (arith, ints))
-
-pub abs_from_bounds : (a : ℤ) (n : ℕ) → neg_ℤ (pos n) ≤ℤ a → a ≤ℤ pos n → unsigned_abs a ≤ n
-abs_from_bounds a n h k = omega (arith, ints)
-
 -- 0 <= a <= b
 pub abs_mono : (a b : ℤ) → pos 0 ≤ℤ a → a ≤ℤ b → unsigned_abs a ≤ unsigned_abs b
 abs_mono a b h k = omega (arith, ints)
@@ -166,11 +147,5 @@ abs_square (pos a) = refl
 abs_square (negsuc a) = refl
 
 -- ---- the ring at work
-pub square_of_sum : (a b : ℤ) → (a +ℤ b) *ℤ (a +ℤ b) ≡ a *ℤ a +ℤ pos 2 *ℤ (a *ℤ b) +ℤ b *ℤ b
-square_of_sum a b = simp ring (omega (arith, ints))
-
 pub squares_apart : (a b : ℤ) → (a +ℤ b) *ℤ (a -ℤ b) ≡ a *ℤ a -ℤ b *ℤ b
 squares_apart a b = simp ring (omega (arith, ints))
-
-pub two_squares : (a b c d : ℤ) → (a *ℤ a +ℤ b *ℤ b) *ℤ (c *ℤ c +ℤ d *ℤ d) ≡ (a *ℤ c -ℤ b *ℤ d) *ℤ (a *ℤ c -ℤ b *ℤ d) +ℤ (a *ℤ d +ℤ b *ℤ c) *ℤ (a *ℤ d +ℤ b *ℤ c)
-two_squares a b c d = simp ring (omega (arith, ints))

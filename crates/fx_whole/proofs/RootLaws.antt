@@ -1,5 +1,5 @@
 -- The laws of `isqrt`.
-use Rattle.std.proofs.Common.{◌≡◌, ℕ, zero, suc, ◌+◌, ◌*◌, ◌<◌, ◌≤◌, Bool, true, false, cond, nat_le, ℤ, pos, negsuc, ◌*ℤ◌, ◌<ℤ◌, ◌≤ℤ◌, unsigned_abs, refl, sym, subst, arith, leb-true, leb-false, mul-le-mul, inl, inr, le_refl}
+use Rattle.std.proofs.Common.{◌≡◌, ℕ, zero, suc, ◌+◌, ◌*◌, ◌<◌, ◌≤◌, Bool, true, false, cond, nat_le, ℤ, pos, negsuc, ◌*ℤ◌, ◌<ℤ◌, ◌≤ℤ◌, refl, sym, subst, arith, leb-true, leb-false, mul-le-mul, inl, inr}
 use Rattle.std.proofs.lemmas.Bool.{cases_lt}
 use Rattle.std.proofs.lemmas.Int.{ints, by_lt_z}
 use lib.IntN.{*ℤ_comm}
@@ -101,16 +101,3 @@ isqrt-below n s h k =
         let p : (s *ℤ s) ≤ℤ (r *ℤ s) = mul_mono s r s (omega (arith, ints)) l in
         let q : (s *ℤ r) ≤ℤ (r *ℤ r) = mul_mono s r r (omega (arith, ints)) l in
         omega (arith, ints, *ℤ_comm r s)
-
-pub isqrt-size : (n : ℤ) → unsigned_abs (isqrt n) ≤ unsigned_abs n
-unfolding isqrt
-isqrt-size (pos n) = own_root n n
-  where
-    own_root : (n b : ℕ) → greatest_root n b ≤ b
-    own_root n zero = le_refl zero
-    own_root n (suc b) = pick (nat_le (suc b * suc b) n) (greatest_root n b) (own_root n b)
-      where
-        pick : (t : Bool) (r : ℕ) → r ≤ b → cond t (suc b) r ≤ suc b
-        pick true r h = le_refl (suc b)
-        pick false r h = omega arith
-isqrt-size (negsuc n) = omega arith

@@ -1,10 +1,10 @@
 -- The laws of `sum_to`, `sum_ℕ_to` and `when`.
-use Rattle.std.proofs.Common.{◌≡◌, ◌≢◌, ℕ, zero, suc, ◌+◌, ◌-◌, ◌*◌, ◌<◌, ◌≤◌, Bool, true, false, ◌&&◌, ℤ, pos, ◌+ℤ◌, ◌-ℤ◌, ◌*ℤ◌, neg_ℤ, ◌≤ℤ◌, unsigned_abs, refl, sym, ap, ap₂, ◌∙◌, arith, add-one, add-zero, add-suc, inl, inr}
+use Rattle.std.proofs.Common.{◌≡◌, ◌≢◌, ℕ, zero, suc, ◌+◌, ◌-◌, ◌*◌, ◌<◌, ◌≤◌, Bool, true, false, ℤ, pos, ◌+ℤ◌, ◌-ℤ◌, ◌*ℤ◌, neg_ℤ, ◌≤ℤ◌, unsigned_abs, refl, sym, ap, ap₂, ◌∙◌, subst, arith, add-one, add-zero, add-suc, inl, inr}
 use Rattle.std.proofs.lemmas.Int.{ints}
 use Rattle.std.proofs.lemmas.Bool.{cases_eq}
 use lib.IntN.{zero-*ℤ, *ℤ-zero, +ℤ_idl, +ℤ_idr, +ℤ_comm, +ℤ_assoc}
 use Rattle.fx_whole.specs.Sums.{sum_to, sum_ℕ_to, when}
-use Rattle.fx_whole.proofs.Ring.{*ℤ_distrib_left, *ℤ_distrib_right}
+use Rattle.fx_whole.proofs.Ring.{*ℤ_distrib_left, *ℤ_distrib_right, abs-add}
 
 -- ---- sums
 pub sum_to-more : (n : ℕ) (f : ℕ → ℤ) → sum_to (n + 1) f ≡ sum_to n f +ℤ f n
@@ -147,42 +147,14 @@ pub when-zero : (b : Bool) → when b (pos 0) ≡ pos 0
 when-zero true = refl
 when-zero false = refl
 
-pub when-add : (b : Bool) (x y : ℤ) → when b (x +ℤ y) ≡ when b x +ℤ when b y
-when-add true x y = refl
-when-add false x y = refl
-
-pub when-neg : (b : Bool) (x : ℤ) → when b (neg_ℤ x) ≡ neg_ℤ (when b x)
-when-neg true x = refl
-when-neg false x = refl
-
-pub when-sub : (b : Bool) (x y : ℤ) → when b (x -ℤ y) ≡ when b x -ℤ when b y
-when-sub true x y = refl
-when-sub false x y = refl
-
-pub when-mul_left : (b : Bool) (c x : ℤ) → when b (c *ℤ x) ≡ c *ℤ when b x
-when-mul_left true c x = refl
-when-mul_left false c x = sym (*ℤ-zero c)
-
-pub when-mul_right : (b : Bool) (x c : ℤ) → when b (x *ℤ c) ≡ when b x *ℤ c
-when-mul_right true x c = refl
-when-mul_right false x c = sym (zero-*ℤ c)
-
-pub when-and : (a b : Bool) (x : ℤ) → when (a && b) x ≡ when a (when b x)
-when-and true b x = refl
-when-and false b x = refl
-
-pub when-swap : (a b : Bool) (x : ℤ) → when a (when b x) ≡ when b (when a x)
-when-swap true b x = refl
-when-swap false b x = sym (when-zero b)
-
-pub when-sum : (b : Bool) (n : ℕ) (f : ℕ → ℤ) → when b (sum_to n f) ≡ sum_to n (λ k. when b (f k))
-when-sum true n f = refl
-when-sum false n f = sym (sum_to-zero n)
-
-pub when-nonneg : (b : Bool) (x : ℤ) → pos 0 ≤ℤ x → pos 0 ≤ℤ when b x
-when-nonneg true x h = h
-when-nonneg false x h = omega (arith, ints)
-
 pub when-size : (b : Bool) (x : ℤ) → unsigned_abs (when b x) ≤ unsigned_abs x
 when-size true x = omega arith
 when-size false x = omega arith
+
+-- a sum with one term more
+pub grows : (b : Bool) (new old x : ℤ) (m : ℕ) → new ≡ old +ℤ when b x → unsigned_abs x ≤ m → unsigned_abs new ≤ unsigned_abs old + m
+grows b new old x m e h =
+    subst (λ (n : ℤ). unsigned_abs n ≤ unsigned_abs old + m) (sym e) (sum (unsigned_abs (old +ℤ when b x)) (unsigned_abs old) (unsigned_abs (when b x)) (unsigned_abs x) m (abs-add old (when b x)) (when-size b x) h)
+  where
+    sum : (s o w x m : ℕ) → s ≤ o + w → w ≤ x → x ≤ m → s ≤ o + m
+    sum s o w x m p q r = omega arith

@@ -1,9 +1,9 @@
 -- The laws of `value` and `down`, tables filled from one end, and of `sum_after`.
-use Rattle.std.proofs.Common.{◌≡◌, ◌≢◌, ℕ, zero, suc, ◌+◌, ◌-◌, ◌<◌, ◌≤◌, ◌==◌, nat_lt, ℤ, pos, ◌+ℤ◌, refl, sym, ap, ◌∙◌, arith, add-one, inl, inr}
-use Rattle.std.proofs.lemmas.Bool.{cases_eq, cases_lt, eq-eqb, ne_eqb, lt-ltb, le-ltb, cond-true, cond-false}
+use Rattle.std.proofs.Common.{◌≡◌, ◌≢◌, ℕ, zero, suc, ◌+◌, ◌-◌, ◌<◌, ◌≤◌, ◌==◌, nat_lt, ℤ, refl, sym, ap, ◌∙◌, arith, add-one, inl, inr}
+use Rattle.std.proofs.lemmas.Bool.{cases_eq, cases_lt, eq-eqb, ne_eqb, le-ltb, cond-true, cond-false}
 use Rattle.fx_whole.specs.Sums.{when}
 use Rattle.fx_whole.specs.Tables.{made, value, filled_down, down, LooksLater, sum_after}
-use Rattle.fx_whole.proofs.SumLaws.{sum_to-ext, sum_to-more, sum_to-none, when-true, when-false}
+use Rattle.fx_whole.proofs.SumLaws.{sum_to-ext, when-false}
 
 -- ---- upwards
 module _ {A : Type 0} (base : A) (next : ℕ → (ℕ → A) → A) where
@@ -88,12 +88,3 @@ sum_after-ext k n f g h = sum_to-ext n (λ l. when (nat_lt k l) (f l)) (λ l. wh
       | inl q ↦ ap (when (nat_lt k l)) (h l q p)
       | inr q ↦ when-false (nat_lt k l) (f l) (le-ltb k l q) ∙ sym (when-false (nat_lt k l) (g l) (le-ltb k l q))
     ]
-
--- one more term, at the end
-pub sum_after-more : (k n : ℕ) (f : ℕ → ℤ) → k < n → sum_after k (n + 1) f ≡ sum_after k n f +ℤ f n
-sum_after-more k n f h =
-    sum_to-more n (λ l. when (nat_lt k l) (f l)) ∙ ap (λ x. sum_after k n f +ℤ x) (when-true (nat_lt k n) (f n) (lt-ltb k n h))
-
--- nothing is later
-pub sum_after-none : (k n : ℕ) (f : ℕ → ℤ) → n ≤ k + 1 → sum_after k n f ≡ pos 0
-sum_after-none k n f h = sum_to-none n (λ l. when (nat_lt k l) (f l)) (λ l p. when-false (nat_lt k l) (f l) (le-ltb k l (omega arith)))

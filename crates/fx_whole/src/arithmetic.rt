@@ -71,6 +71,14 @@ pub fn is_within(n: i128, limit: i64) -> bool
     n.unsigned_abs() <= u128::from(limit.unsigned_abs())
 }
 
+/// Whether the size of `n` is at most that of `most`.
+pub fn is_between(n: &i128, most: &i128) -> bool
+    requires { pos 0 ≤ℤ most.now }
+    ensures { IsTrue result ↔ (unsigned_abs n.now ≤ unsigned_abs most.now) }
+{
+    -*most <= *n && *n <= *most
+}
+
 /// `|n|`.
 pub fn size(n: i128) -> u128
     ensures value { result ≡ unsigned_abs n }

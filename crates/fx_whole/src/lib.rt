@@ -5,13 +5,13 @@ pub mod arithmetic;
 mod reciprocal;
 pub mod roots;
 pub mod rounding;
-#[cfg(test)]
-mod tests;
+pub mod shifting;
 
 pub use arithmetic::{
-    add_product, difference, is_within, narrow, negate, power, product, scale_up, scale_up_wide,
-    size, sum, wide_product,
+    add_product, difference, is_between, is_within, narrow, negate, power, product, scale_up,
+    scale_up_wide, size, sum, wide_product,
 };
 pub use reciprocal::{Divisor, nearest_by};
-pub use roots::isqrt;
+pub use roots::{guess_near_one, isqrt, isqrt_from};
 pub use rounding::{nearest, nearest_shift};
+pub use shifting::{is_rounded_within, nearest_by_half, rounding_rest};

@@ -22,6 +22,24 @@ pub fn isqrt(n: i128) -> i128
     n.isqrt()
 }
 
+/// `isqrt`, where `guess` is tried first.
+pub fn isqrt_from(n: &i128, guess: u64) -> i128
+    requires { pos 0 ≤ℤ n.now }
+    ensures { result ≡ spec.isqrt n.now }
+{
+    if is_root(n.unsigned_abs(), guess) {
+        return i128::from(guess);
+    }
+    isqrt(*n)
+}
+
+/// Nearly always the root of a number near to `2^64`: `2^32` and half of what the number is past
+/// that. It is to be tested, so nothing rests on it.
+pub fn guess_near_one(n: &i128) -> u64 {
+    let past = low_half(n.unsigned_abs()).cast_signed() >> 33;
+    (1u64 << 32).wrapping_add(past.cast_unsigned())
+}
+
 /// Whether `s` is the integer root of `n`.
 fn is_root(n: u128, s: u64) -> bool
     ensures { IsTrue result ↔ (s * s ≤ n × n < (s + 1) * (s + 1)) }

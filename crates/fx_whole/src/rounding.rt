@@ -2,6 +2,8 @@
 ghost use Rattle.std.specs.Prelude.{◌≡◌, pos, ◌+◌, ◌-◌, ◌*◌, ◌/◌, ◌^◌, ◌<◌, ◌≤◌, ◌<ℤ◌, unsigned_abs};
 ghost use Rattle.fx_whole.specs.Nearest as spec;
 
+use crate::shifting::nearest_by_half;
+
 /// `size` with the sign of `of`. The least i128 is its own negative, so it comes out right too.
 pub fn with_sign(of: i128, size: u128) -> i128
     requires { size ≤ unsigned_abs of }
@@ -45,6 +47,14 @@ pub fn nearest(n: i128, d: i128) -> i128
     with_sign(n, nearest_size(n.unsigned_abs(), d.unsigned_abs()))
 }
 
+/// `nearest_shift` by the size of `n`, for every number and shift.
+fn nearest_shift_by_size(n: i128, shift: u32) -> i128
+    requires { shift ≤ 126 }
+    ensures { result ≡ spec.nearest n (pos (2 ^ shift)) }
+{
+    with_sign(n, nearest_size_shift(n.unsigned_abs(), shift))
+}
+
 /// The integer nearest to `n / 2^shift`, a tie to the one nearer to zero: `nearest` with no
 /// division.
 pub fn nearest_shift(n: i128, shift: u32) -> i128
@@ -52,5 +62,9 @@ pub fn nearest_shift(n: i128, shift: u32) -> i128
     ensures formula { result ≡ spec.nearest n (pos (2 ^ shift)) }
     ensures property { spec.IsNearest n (pos (2 ^ shift)) result }
 {
-    with_sign(n, nearest_size_shift(n.unsigned_abs(), shift))
+    if 1 <= shift && shift <= 64 && n < 1 << 126 {
+        nearest_by_half(&n, shift)
+    } else {
+        nearest_shift_by_size(n, shift)
+    }
 }

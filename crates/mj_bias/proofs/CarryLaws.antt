@@ -13,9 +13,9 @@ use Rattle.mj_types.specs.Parts.{body, parent_of, body_of, first_dof}
 use Rattle.mj_bias.specs.Movement.{Movement}
 use Rattle.mj_bias.specs.Biases.{own_motion, own_drift}
 use Rattle.mj_bias.specs.Radii.{Rule, own_motion_width, own_drift_width}
-use Rattle.mj_bias.specs.Measures.{Measured, measured, no_measure, numbers_at, totals_at, IsWithin}
-use Rattle.mj_bias.specs.Carried.{movement, motion_to, drift_to, IsCarried, IsBegun}
-use Rattle.mj_bias.proofs.MovingLaws.{layout_of}
+use Rattle.mj_bias.specs.Measures.{Measured, measured, no_measure, numbers_at, totals_at, settled_by, IsWithin}
+use Rattle.mj_bias.specs.Carried.{movement, carrier_at, motion_to, drift_to, IsCarried, IsBegun, CarriesNext, IsVelocity}
+use Rattle.mj_bias.proofs.MovingLaws.{layout_of, own_carrier}
 use Rattle.mj_bias.proofs.PlaceLaws.{place, place_le, place_none, of_later}
 
 module _ (rule : Rule) (model : Model) (frames : Frames) (state : State) where
@@ -67,13 +67,18 @@ module _ (rule : Rule) (model : Model) (frames : Frames) (state : State) where
       (moving_world vectors vectors-is_adding (parent_of model.bodies) (body_of model.dofs) (first_dof model.bodies) (length model.bodies) model.nv (layout_of model) model.nv (own_drift moved) (omega arith))
       (moving_world sizes sizes-is_adding (parent_of model.bodies) (body_of model.dofs) (first_dof model.bodies) (length model.bodies) model.nv (layout_of model) model.nv (own_drift_width rule moved) (omega arith))
 
+  -- what carries the first dof of the next body is the motion of its parent
+  pub next_carrier : (k : ℕ) → CarriesNext model k → carrier_at rule moved (body model.bodies k).dofadr ≡ settled_by rule 32 (motion_to moved model.nv k)
+  next_carrier k h =
+      sym (own_carrier rule moved (body model.bodies k).dofadr (k + 1) h.first.base_ h.first.body_)
+      ∙ ap (settled_by rule 32) (sym (motion_begins k h.next) ∙ ap (motion_to moved model.nv) h.parent_)
+
   -- ---- what the lists hold
   pub carried_world : {K R W : Type 0} (width : R → ℕ) (wide : W → ℕ) (x : Bias K R W) → totals_at wide x.motion 0 ≡ no_measure → totals_at wide x.drift 0 ≡ no_measure
       → IsCarried rule width wide moved 0 (place model 0) x
   carried_world width wide x e f =
       let none : place model 0 ≡ 0 = place_none model in
       record {
-        column_ = λ i h. absurd (omega arith);
         turn_ = λ i h. absurd (omega arith);
         small = λ i h. absurd (omega arith);
         rates = λ i h. absurd (omega arith);
@@ -82,13 +87,12 @@ module _ (rule : Rule) (model : Model) (frames : Frames) (state : State) where
       }
 
   pub begun_first : {K R W : Type 0} (width : R → ℕ) (wide : W → ℕ) (b : ℕ) (x y : Bias K R W) → b < length model.bodies
-      → IsCarried rule width wide moved b (body model.bodies b).dofadr x → y.column ≡ x.column → y.turn ≡ x.turn
+      → IsCarried rule width wide moved b (body model.bodies b).dofadr x → y.turn ≡ x.turn
       → ((k : ℕ) → k ≢ b + 1 → totals_at wide y.motion k ≡ totals_at wide x.motion k) → ((k : ℕ) → k ≢ b + 1 → totals_at wide y.drift k ≡ totals_at wide x.drift k)
       → totals_at wide y.motion (b + 1) ≡ totals_at wide x.motion (body model.bodies b).parent → totals_at wide y.drift (b + 1) ≡ totals_at wide x.drift (body model.bodies b).parent
       → IsBegun rule width wide moved b (body model.bodies b).dofadr y
-  begun_first width wide b x y h carried column turn motions drifts motion drift = record {
+  begun_first width wide b x y h carried turn motions drifts motion drift = record {
     earlier = record {
-      column_ = λ i l. ap (λ xs. numbers_at width xs i) column ∙ carried.column_ i l;
       turn_ = λ i l. ap (λ xs. numbers_at width xs i) turn ∙ carried.turn_ i l;
       small = λ i l. subst (λ (s : Measured). IsWithin s (2 ^ 48) radius_limit) (ap (λ xs. numbers_at width xs i) (sym turn)) (carried.small i l);
       rates = carried.rates;
@@ -102,7 +106,6 @@ module _ (rule : Rule) (model : Model) (frames : Frames) (state : State) where
   pub carried_more : {K R W : Type 0} (width : R → ℕ) (wide : W → ℕ) (b j : ℕ) (x : Bias K R W) → b < length model.bodies → j ≡ place model (b + 1)
       → IsBegun rule width wide moved b j x → IsCarried rule width wide moved (b + 1) j x
   carried_more width wide b j x h e begun = record {
-    column_ = begun.earlier.column_;
     turn_ = begun.earlier.turn_;
     small = begun.earlier.small;
     rates = begun.earlier.rates;
@@ -114,4 +117,11 @@ module _ (rule : Rule) (model : Model) (frames : Frames) (state : State) where
       | inl q ↦ ap (totals_at wide x.drift) q ∙ begun.drift_here ∙ ap (λ (n : ℕ). drift_to rule moved n (b + 1)) e ∙ drift_ends b h ∙ ap (drift_to rule moved model.nv) (sym q)
       | inr q ↦ begun.earlier.drift_ k (omega arith)
     ];
+  }
+
+  pub next_velocity : {K R W : Type 0} (width : R → ℕ) (wide : W → ℕ) (x : Bias K R W) → IsCarried rule width wide moved (length model.bodies) model.nv x
+      → (k : ℕ) → CarriesNext model k → IsVelocity rule (totals_at wide x.motion k) (numbers_at width x.turn (body model.bodies k).dofadr)
+  next_velocity width wide x carried k h = record {
+    value_ = carried.turn_ (body model.bodies k).dofadr h.first.there ∙ next_carrier k h ∙ ap (settled_by rule 32) (sym (carried.motion_ k (omega (arith, h.next))));
+    within = carried.small (body model.bodies k).dofadr h.first.there;
   }

@@ -88,7 +88,7 @@ unfolding carrier carrier_radius carrier_sum carrier_width
 shared_carrier rule m i j e h =
     ap₂ (λ (n k : ℕ). settled_by rule 32 (measured (sum_moving vectors m.parent m.body n (own_motion m) k) (sum_moving sizes m.parent m.body n (own_motion_width m) k))) e h
 
-own_carrier : (rule : Rule) (m : Movement) (j k : ℕ) → m.base j ≡ j → m.body j ≡ k → settled_by rule 32 (motion_to m j k) ≡ carrier_at rule m j
+pub own_carrier : (rule : Rule) (m : Movement) (j k : ℕ) → m.base j ≡ j → m.body j ≡ k → settled_by rule 32 (motion_to m j k) ≡ carrier_at rule m j
 unfolding carrier carrier_radius carrier_sum carrier_width motion_to
 own_carrier rule m j k e h =
     ap₂ (λ (n k : ℕ). settled_by rule 32 (measured (sum_moving vectors m.parent m.body n (own_motion m) k) (sum_moving sizes m.parent m.body n (own_motion_width m) k))) (sym e) (sym h)
@@ -220,16 +220,15 @@ kept g f j limit width before others here i l =
 
 pub begun_more : {K R W : Type 0} (rule : Rule) (width : R → ℕ) (wide : W → ℕ) (m : Movement) (b j : ℕ) (x y : Bias K R W) → IsTree m.parent → m.body j ≡ b + 1
     → IsBegun rule width wide m b j x
-    → numbers_at width y.column j ≡ exact (m.column j) → numbers_at width y.turn j ≡ carrier_at rule m j
+    → numbers_at width y.turn j ≡ carrier_at rule m j
     → IsWithin (numbers_at width y.turn j) (2 ^ 48) radius_limit → IsWithin (rate_at rule m j) (2 ^ 56) radius_limit
-    → ((i : ℕ) → i ≢ j → numbers_at width y.column i ≡ numbers_at width x.column i) → ((i : ℕ) → i ≢ j → numbers_at width y.turn i ≡ numbers_at width x.turn i)
+    → ((i : ℕ) → i ≢ j → numbers_at width y.turn i ≡ numbers_at width x.turn i)
     → ((k : ℕ) → k ≢ b + 1 → totals_at wide y.motion k ≡ totals_at wide x.motion k) → ((k : ℕ) → k ≢ b + 1 → totals_at wide y.drift k ≡ totals_at wide x.drift k)
     → totals_at wide y.motion (b + 1) ≡ sum_of (totals_at wide x.motion (b + 1)) (multiple (m.speed j) (exact (m.column j)))
     → totals_at wide y.drift (b + 1) ≡ sum_of (totals_at wide x.drift (b + 1)) (multiple (m.speed j) (rate_at rule m j))
     → IsBegun rule width wide m b (j + 1) y
-begun_more rule width wide m b j x y tree e begun column turn small slow columns turns motions drifts motion drift = record {
+begun_more rule width wide m b j x y tree e begun turn small slow turns motions drifts motion drift = record {
   earlier = record {
-    column_ = grown (numbers_at width x.column) (numbers_at width y.column) (λ i. exact (m.column i)) j begun.earlier.column_ columns column;
     turn_ = grown (numbers_at width x.turn) (numbers_at width y.turn) (carrier_at rule m) j begun.earlier.turn_ turns turn;
     small = kept (numbers_at width y.turn) (numbers_at width x.turn) j (2 ^ 48) radius_limit begun.earlier.small turns small;
     rates = kept (rate_at rule m) (rate_at rule m) j (2 ^ 56) radius_limit begun.earlier.rates (λ i n. refl) slow;

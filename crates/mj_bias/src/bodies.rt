@@ -1,5 +1,5 @@
 // The wrench that moves each body, from the sums over the dofs that move it.
-ghost use Rattle.std.specs.Prelude.{◌≡◌, ◌≢◌, ℕ, ◌+◌, ◌<◌, ◌≤◌, ◌^◌, unsigned_abs, length, OnOk, IfOk};
+ghost use Rattle.std.specs.Prelude.{◌≡◌, ◌≢◌, ℕ, ◌+◌, ◌<◌, ◌≤◌, ◌^◌, unsigned_abs, length, IsTrue, OnOk, IfOk};
 ghost use Rattle.fx_num.specs.Radii.{radius_limit};
 ghost use Rattle.fx_vec.specs.Sizes.{Within};
 ghost use Rattle.fx_vec.specs.Views as view;
@@ -7,6 +7,8 @@ ghost use Rattle.fx_whole.specs.First.{refusal_of, first_to};
 ghost use Rattle.mj_types.specs.Memory.{NumberFits, MotionFits, SumsFit};
 ghost use Rattle.mj_types.specs.Placed.{AreFrames, WithinInertia, inertia_at};
 ghost use Rattle.mj_types.specs.Ranges.{is_within};
+ghost use Rattle.mj_types.specs.Parts.{body};
+ghost use Rattle.mj_bias.specs.Carried as carried;
 ghost use Rattle.mj_bias.specs.Faults.{is_within3, is_within6};
 ghost use Rattle.mj_bias.specs.Measures as measure;
 ghost use Rattle.mj_bias.specs.Steps as spec;
@@ -46,6 +48,50 @@ fn fall<K: Carry>(gravity: &V3<Plain, 32>) -> Sp6<K, 32>
     Vector6 {
         ang: exact3::<K>(&no_vector()),
         lin: exact3::<K>(gravity),
+    }
+}
+
+// Whether dof `j` is of body `k` and its base is itself, so that what moved the body before carries it.
+fn begins_body(model: &Model, j: usize, k: usize) -> bool
+    ensures { IsTrue result → carried.BeginsBody model.now j k }
+{
+    j < model.nv && model.dofs.entry(j).base == j && model.dofs.entry(j).body == k
+}
+
+// Whether the motion of body `k` is what carries the first dof of the next body, as mostly in a chain.
+fn carries_next(model: &Model, k: usize) -> bool
+    ensures { IsTrue result → carried.CarriesNext model.now k }
+{
+    k < model.bodies.len()
+        && model.bodies.entry(k).parent == k
+        && begins_body(model, model.bodies.entry(k).dofadr, k + 1)
+}
+
+// The velocity of body `k`: what carries the first dof of the next body, where that is the same, and
+// else the sum of its motions, rounded.
+fn velocity<K: Carry>(
+    model: &Model,
+    turn: &Array<Sp6<K, 32>>,
+    motion: &Sum6<K, 64>,
+    k: usize,
+) -> Result<Sp6<K, 32>, OutOfRange>
+    requires motions { MotionFits K.Rad.row }
+    requires sums { SumsFit K.Wide.row }
+    requires turns { length turn.now ≡ model.now.nv }
+    requires shared { carried.CarriesNext model.now k → carried.IsVelocity K.settled
+        (measure.totals K.wide_width motion.now)
+        (measure.numbers_at K.width turn.now (body model.now.bodies k).dofadr) }
+    ensures value { IfOk result (λ r. measure.numbers K.width r
+        ≡ spec.velocity_there K.settled (measure.totals K.wide_width motion.now)) }
+    ensures within { IfOk result (λ r.
+        measure.IsWithin (measure.numbers K.width r) (2 ^ 48) radius_limit) }
+    ensures first { refusal_of result ≡ measure.measure_fault Quantity.BodyMotion k (2 ^ 48)
+        (spec.velocity_there K.settled (measure.totals K.wide_width motion.now)) }
+{
+    if carries_next(model, k) {
+        Ok(turn.at(model.bodies.entry(k).dofadr))
+    } else {
+        settle_vector::<K, 64, 32>(motion, 1 << 48, Quantity::BodyMotion, k)
     }
 }
 
@@ -121,7 +167,9 @@ fn wrench<K: Carry>(
 }
 
 // The wrench of body `k` from its sums.
-pub(crate) fn body_wrench<K: Carry>(
+fn body_wrench<K: Carry>(
+    model: &Model,
+    turn: &Array<Sp6<K, 32>>,
     inertia: &Inertia10,
     gravity: &V3<Plain, 32>,
     motion: &Sum6<K, 64>,
@@ -131,6 +179,10 @@ pub(crate) fn body_wrench<K: Carry>(
     requires numbers { NumberFits K.Rad.row }
     requires motions { MotionFits K.Rad.row }
     requires sums { SumsFit K.Wide.row }
+    requires turns { length turn.now ≡ model.now.nv }
+    requires shared { carried.CarriesNext model.now k → carried.IsVelocity K.settled
+        (measure.totals K.wide_width motion.now)
+        (measure.numbers_at K.width turn.now (body model.now.bodies k).dofadr) }
     requires inertia { WithinInertia (view.inertia inertia.now) (2 ^ 62) }
     requires gravity { Within (view.mids gravity.now) (2 ^ 42) }
     requires drift { measure.IsWithin (measure.totals K.wide_width drift.now) (2 ^ 110) (2 ^ 100) }
@@ -143,7 +195,7 @@ pub(crate) fn body_wrench<K: Carry>(
         (view.inertia inertia.now) (measure.totals K.wide_width motion.now)
         (measure.totals K.wide_width drift.now) k }
 {
-    let v = settle_vector::<K, 64, 32>(motion, 1 << 48, Quantity::BodyMotion, k)?;
+    let v = velocity::<K>(model, turn, motion, k)?;
     let a = acceleration::<K>(gravity, drift, k)?;
     let p = momentum::<K>(inertia, &v, k)?;
     let force = wrench::<K>(inertia, &a, &v, &p);
@@ -155,6 +207,7 @@ pub(crate) fn body_wrench<K: Carry>(
 pub(crate) fn weigh_bodies<K: Carry>(
     model: &Model,
     frames: &Frames,
+    turn: &Array<Sp6<K, 32>>,
     motion: &Array<Sum6<K, 64>>,
     drift: &Array<Sum6<K, 64>>,
     wrench: &mut Array<Sum6<K, 72>>,
@@ -166,6 +219,10 @@ pub(crate) fn weigh_bodies<K: Carry>(
     requires motion { length motion.now ≡ length model.now.bodies + 1 }
     requires drift { length drift.now ≡ length model.now.bodies + 1 }
     requires wrench { length wrench.old ≡ length model.now.bodies + 1 }
+    requires turns { length turn.now ≡ model.now.nv }
+    requires shared { (k : ℕ) → carried.CarriesNext model.now k → carried.IsVelocity K.settled
+        (measure.totals_at K.wide_width motion.now k)
+        (measure.numbers_at K.width turn.now (body model.now.bodies k).dofadr) }
     requires drifts { (k : ℕ) → k ≤ length model.now.bodies
         → measure.IsWithin (measure.totals_at K.wide_width drift.now k) (2 ^ 110) (2 ^ 100) }
     ensures len { length wrench.new ≡ length wrench.old }
@@ -188,6 +245,8 @@ pub(crate) fn weigh_bodies<K: Carry>(
     wrench.put(0, no_sums::<K, 72>());
     for b in 0..model.bodies.len() {
         let force = body_wrench::<K>(
+            model,
+            turn,
             frames.inertia.entry(b),
             &model.gravity,
             motion.entry(b + 1),

@@ -1,18 +1,21 @@
 // The bias force of each dof, from the wrench of the bodies that it moves.
 ghost use Rattle.std.specs.Prelude.{◌≡◌, ℕ, ◌+◌, ◌<◌, ◌≤◌, ◌^◌, unsigned_abs, length, OnOk, IfOk};
 ghost use Rattle.fx_num.specs.Radii.{radius_limit};
+ghost use Rattle.fx_vec.specs.Sizes.{Within6};
 ghost use Rattle.fx_vec.specs.Spatial.{pair};
 ghost use Rattle.fx_vec.specs.Views.{spatial, spatial_radii};
 ghost use Rattle.fx_vec.specs.Widths.{pair_width};
 ghost use Rattle.fx_whole.specs.First.{refusal_of, first_to};
 ghost use Rattle.mj_types.specs.Parts.{body_of};
+ghost use Rattle.mj_types.specs.Placed.{spatial_at};
 ghost use Rattle.mj_bias.specs.Measures as measure;
 ghost use Rattle.mj_bias.specs.Steps as spec;
 ghost use Rattle.mj_types.specs.Memory.{NumberFits, MotionFits, SumsFit};
 
+use crate::numbers::exact6;
 use crate::settling::{settle_number, settle_vector};
 use fx_list::Array;
-use fx_num::{Carry, Num, Sum, none};
+use fx_num::{Carry, Num, Plain, Sum, none};
 use fx_vec::{Sp6, Sum6, pair_into};
 use mj_types::{Model, OutOfRange, Quantity};
 
@@ -65,7 +68,7 @@ pub(crate) fn force<K: Carry>(
 /// Makes the bias force of each dof.
 pub(crate) fn make_forces<K: Carry>(
     model: &Model,
-    column: &Array<Sp6<K, 32>>,
+    column: &Array<Sp6<Plain, 32>>,
     wrench: &Array<Sum6<K, 72>>,
     c: &mut Array<Num<K, 32>>,
 ) -> Result<(), OutOfRange>
@@ -76,23 +79,24 @@ pub(crate) fn make_forces<K: Carry>(
     requires wrench { length wrench.now ≡ length model.now.bodies + 1 }
     requires c { length c.old ≡ model.now.nv }
     requires columns { (i : ℕ) → i < model.now.nv
-        → measure.IsWithin (measure.numbers_at K.width column.now i) (2 ^ 42) 0 }
+        → Within6 (spatial_at column.now i) (2 ^ 42) }
     ensures len { length c.new ≡ length c.old }
     ensures values { OnOk result (spec.Holds K.width model.now.nv c.new
-        (λ i. spec.force_there (measure.numbers_at K.width column.now i)
+        (λ i. spec.force_there (measure.exact (spatial_at column.now i))
         (spec.load_there K.settled
         (measure.totals_at K.wide_width wrench.now (body_of model.now.dofs i))))
-        (λ i. spec.force_radius_there K.settled (measure.numbers_at K.width column.now i)
+        (λ i. spec.force_radius_there K.settled (measure.exact (spatial_at column.now i))
         (spec.load_there K.settled
         (measure.totals_at K.wide_width wrench.now (body_of model.now.dofs i))))) }
     ensures small { OnOk result (spec.AreSmall K.width model.now.nv c.new) }
     ensures first { refusal_of result ≡ first_to model.now.nv (λ i. spec.force_fault_there K.settled
-        (measure.numbers_at K.width column.now i)
+        (measure.exact (spatial_at column.now i))
         (measure.totals_at K.wide_width wrench.now (body_of model.now.dofs i)) i) }
 {
     for i in 0..model.nv {
         let body = model.dofs.entry(i).body;
-        let force = force::<K>(column.entry(i), wrench.entry(body), i)?;
+        let column = exact6::<K>(column.entry(i));
+        let force = force::<K>(&column, wrench.entry(body), i)?;
         c.put(i, force);
     }
     Ok(())

@@ -119,7 +119,7 @@ fn column_rate<K: Carry>(
     }
 }
 
-// Makes dof `j` of the body at place `b`: its column, what carries it, and its rate.
+// Makes dof `j` of the body at place `b`: what carries it, and the rate of its column.
 fn make_dof<K: Carry>(
     model: &Model,
     frames: &Frames,
@@ -141,8 +141,6 @@ fn make_dof<K: Carry>(
         (movement.is_translation model.now j)
         (carrier_there K.settled K.width K.wide_width model.now out.old b j)
         (measure.exact (spatial_at frames.now.column j)) j }
-    ensures column { OnOk result (measure.numbers_at K.width out.new.column j
-        ≡ measure.exact (spatial_at frames.now.column j)) }
     ensures turn { OnOk result (measure.numbers_at K.width out.new.turn j
         ≡ carrier_there K.settled K.width K.wide_width model.now out.old b j) }
     ensures rate { OnOk result (measure.numbers_at K.width out.new.rate j
@@ -153,8 +151,6 @@ fn make_dof<K: Carry>(
         (measure.IsWithin (measure.numbers_at K.width out.new.turn j) (2 ^ 48) radius_limit) }
     ensures small_rate { OnOk result
         (measure.IsWithin (measure.numbers_at K.width out.new.rate j) (2 ^ 56) radius_limit) }
-    ensures other_columns { (i : ℕ) → i ≢ j → measure.numbers_at K.width out.new.column i
-        ≡ measure.numbers_at K.width out.old.column i }
     ensures other_turns { (i : ℕ) → i ≢ j → measure.numbers_at K.width out.new.turn i
         ≡ measure.numbers_at K.width out.old.turn i }
     ensures motion { out.new.motion ≡ out.old.motion }
@@ -163,7 +159,6 @@ fn make_dof<K: Carry>(
     let column = exact6::<K>(frames.column.entry(j));
     let turn = carrier::<K>(model, b, j, out)?;
     let rate = column_rate::<K>(model, &turn, &column, j)?;
-    out.column.put(j, column);
     out.turn.put(j, turn);
     out.rate.put(j, rate);
     Ok(())
@@ -219,7 +214,8 @@ fn move_dof<K: Carry>(
 {
     make_dof::<K>(model, frames, b, j, out)?;
     let v = state.v.entry(j);
-    add_at::<K>(v, out.column.entry(j), b + 1, &mut out.motion);
+    let column = exact6::<K>(frames.column.entry(j));
+    add_at::<K>(v, &column, b + 1, &mut out.motion);
     add_at::<K>(v, out.rate.entry(j), b + 1, &mut out.drift);
     Ok(())
 }

@@ -48,8 +48,15 @@ pub fn bias<K: Carry>(
     ensures ranges { OnOk result (AreSmall K.width model.now.nv out.new.c) }
 {
     move_bodies::<K>(model, frames, state, out)?;
-    weigh_bodies::<K>(model, frames, &out.motion, &out.drift, &mut out.wrench)?;
+    weigh_bodies::<K>(
+        model,
+        frames,
+        &out.turn,
+        &out.motion,
+        &out.drift,
+        &mut out.wrench,
+    )?;
     carry_up::<K>(model, &mut out.wrench);
-    make_forces::<K>(model, &out.column, &out.wrench, &mut out.c)?;
+    make_forces::<K>(model, &frames.column, &out.wrench, &mut out.c)?;
     Ok(())
 }

@@ -9,8 +9,6 @@ mod forces;
 pub mod laws;
 mod numbers;
 mod settling;
-#[cfg(test)]
-mod tests;
 mod up;
 
 pub use forces::bias;

@@ -13,7 +13,8 @@ use Rattle.mj_types.specs.Parts.{number_at}
 use Rattle.mj_types.specs.Problems.{problem, forces}
 use Rattle.mj_types.specs.Solved.{IsSolved}
 use Rattle.mj_cert.specs.Certificate.{IsCertificate}
-use Rattle.mj_cert.proofs.SolvedLaws.{regular, cost-within}
+use Rattle.mj_types.proofs.DualLaws.{regular}
+use Rattle.mj_cert.proofs.SolvedLaws.{cost-within}
 use Rattle.mj_cert.proofs.ShortfallLaws.{total-nonneg}
 
 pub bound-holds : (d : Dual) (x : Forces) (c : Cert) → IsCertificate d x c → BoundHolds (problem d) c.bound2

@@ -5,7 +5,6 @@
 --   seen_past, seen_before      the test of one step, past the vertex and before it
 --
 -- SolvedLaws, of the numbers that solved forces give
---   regular                every dual is regular
 --   row-, square-, weight-, pull-size      sums of terms;  gradient-size, cost-within
 --   -fits, -fit            sums and products that stay within 128 bits
 --   gradient-is, cost-is   the definitions by the lists that the code reads

@@ -13,7 +13,7 @@ use Rattle.mj_types.specs.declared.range.Quantity.TheVariants as kind
 use Rattle.mj_types.specs.Problems.{problem, forces, place}
 use Rattle.mj_types.specs.Solved.{IsSolved}
 use Rattle.mj_cert.specs.Certificate.{shortfall_out}
-use Rattle.mj_cert.proofs.SolvedLaws.{regular}
+use Rattle.mj_types.proofs.DualLaws.{regular}
 
 pub row-nonneg : (d : Dual) (x : Forces) (i : ℕ) → IsSolved d x → i < d.m → pos 0 ≤ℤ shortfall (problem d) (forces x) i
 row-nonneg d x i s q = shortfall_nonneg (problem d) (forces x) (regular d) s.feasible i q

@@ -14,9 +14,6 @@ use Rattle.mj_types.specs.Problems.{problem, forces}
 use Rattle.mj_types.specs.Solved.{IsSolved}
 use Rattle.mj_cert.specs.Terms.{row_term, square_term, weight_term, pull_term}
 
-pub regular : (d : Dual) → IsRegular (problem d)
-regular d i h = let r : pos 1 ≤ℤ wide_at d.r i = d.rows.regular i h in omega (arith, ints)
-
 -- ---- sums of terms
 pub row-size : (d : Dual) (x : Forces) (i n : ℕ) → IsSolved d x → i < d.m → n ≤ d.nv → unsigned_abs (sum_to n (row_term d x i)) ≤ 2 ^ 109
 row-size d x i n s h l =

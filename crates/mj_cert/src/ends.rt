@@ -7,7 +7,7 @@ ghost use Rattle.mj_optimum.specs.Feasible.{IsAbove, IsBelow};
 ghost use Rattle.mj_optimum.specs.Limits.{box_limit, where_open};
 ghost use Rattle.mj_optimum.specs.Shortfall.{shortfall, total_shortfall};
 ghost use Rattle.mj_optimum.specs.Sweep.{at_least, at_most};
-ghost use Rattle.mj_types.specs.Duals.{bound, is_low, is_high, wide_at};
+ghost use Rattle.mj_types.specs.Duals.{bound, is_in_range, wide_at};
 ghost use Rattle.mj_types.specs.Parts.{number_at};
 ghost use Rattle.mj_types.specs.Problems as duals;
 ghost use Rattle.mj_types.specs.Ranges.{limited};
@@ -71,7 +71,7 @@ fn high_end(
 ) -> Result<Fix<20>, OutOfRange>
     requires f { unsigned_abs f.now.mid ≤ 2 ^ 50 }
     requires below { IsBelow (bound high) f.now.mid (pos 1) }
-    requires small { IsTrue (is_high (bound high)) }
+    requires small { IsTrue (is_in_range (bound high)) }
     ensures first { refusal_of result ≡ limited Quantity.Box place box_limit
         (pos (where_open (bound high) (spec.rise curve.now.g curve.now.r curve.now.height))) }
     ensures value { IfOk result (λ x. x.mid ≡ at_most (bound high)
@@ -98,7 +98,7 @@ fn low_end(
 ) -> Result<Fix<20>, OutOfRange>
     requires f { unsigned_abs f.now.mid ≤ 2 ^ 50 }
     requires above { IsAbove (bound low) f.now.mid (pos 1) }
-    requires small { IsTrue (is_low (bound low)) }
+    requires small { IsTrue (is_in_range (bound low)) }
     ensures first { refusal_of result ≡ limited Quantity.Box place box_limit
         (pos (where_open (bound low) (spec.rise curve.now.g curve.now.r curve.now.height))) }
     ensures value { IfOk result (λ x. x.mid ≡ at_least (bound low)
@@ -159,8 +159,8 @@ fn ends_within(
     requires f { unsigned_abs f.now.mid ≤ 2 ^ 50 }
     requires above { IsAbove (bound low) f.now.mid (pos 1) }
     requires below { IsBelow (bound high) f.now.mid (pos 1) }
-    requires low_small { IsTrue (is_low (bound low)) }
-    requires high_small { IsTrue (is_high (bound high)) }
+    requires low_small { IsTrue (is_in_range (bound low)) }
+    requires high_small { IsTrue (is_in_range (bound high)) }
     ensures first { refusal_of result ≡ or_first
         (limited Quantity.Box place box_limit
         (pos (where_open (bound high) (spec.rise up.now.g up.now.r up.now.height))))

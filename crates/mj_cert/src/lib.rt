@@ -10,7 +10,5 @@ mod exact;
 mod fall;
 mod room;
 mod slope;
-#[cfg(test)]
-mod tests;
 
 pub use certificate::{certify, optimum_when_closed};

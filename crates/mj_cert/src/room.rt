@@ -2,7 +2,7 @@
 ghost use Rattle.std.specs.Prelude.{◌≡◌, ◌^◌, ◌<◌, ◌≤◌, ◌+ℤ◌, ◌-ℤ◌, ◌≤ℤ◌, pos, unsigned_abs, option_map, IfSome, IsTrue};
 ghost use Rattle.mj_optimum.specs.Feasible.{IsAbove, IsBelow};
 ghost use Rattle.mj_optimum.specs.Shortfall as spec;
-ghost use Rattle.mj_types.specs.Duals.{bound, is_low, is_high};
+ghost use Rattle.mj_types.specs.Duals.{bound, is_in_range};
 
 use fx_num::{Fix, Wide};
 
@@ -21,7 +21,7 @@ pub fn distance(a: &Fix<20>, b: &Fix<20>) -> u64
 fn room_below(low: Option<Fix<20>>, f: &Fix<20>) -> Option<u64>
     requires f { unsigned_abs f.now.mid ≤ 2 ^ 50 }
     requires above { IsAbove (bound low) f.now.mid (pos 1) }
-    requires small { IsTrue (is_low (bound low)) }
+    requires small { IsTrue (is_in_range (bound low)) }
     ensures value { option_map pos result ≡ spec.room_below (bound low) f.now.mid }
     ensures size { IfSome result (λ t. t ≤ 2 ^ 51) }
 {
@@ -35,7 +35,7 @@ fn room_below(low: Option<Fix<20>>, f: &Fix<20>) -> Option<u64>
 fn room_above(high: Option<Fix<20>>, f: &Fix<20>) -> Option<u64>
     requires f { unsigned_abs f.now.mid ≤ 2 ^ 50 }
     requires below { IsBelow (bound high) f.now.mid (pos 1) }
-    requires small { IsTrue (is_high (bound high)) }
+    requires small { IsTrue (is_in_range (bound high)) }
     ensures value { option_map pos result ≡ spec.room_above (bound high) f.now.mid }
     ensures size { IfSome result (λ t. t ≤ 2 ^ 51) }
 {
@@ -55,8 +55,8 @@ pub fn room_of(
     requires f { unsigned_abs f.now.mid ≤ 2 ^ 50 }
     requires above { IsAbove (bound low) f.now.mid (pos 1) }
     requires below { IsBelow (bound high) f.now.mid (pos 1) }
-    requires low_small { IsTrue (is_low (bound low)) }
-    requires high_small { IsTrue (is_high (bound high)) }
+    requires low_small { IsTrue (is_in_range (bound low)) }
+    requires high_small { IsTrue (is_in_range (bound high)) }
     ensures value { option_map pos result ≡ spec.room (bound low) (bound high) f.now.mid g.now.raw }
     ensures size { IfSome result (λ t. t ≤ 2 ^ 51) }
 {

@@ -4,7 +4,5 @@
 mod filter;
 mod list;
 mod pair;
-#[cfg(test)]
-mod tests;
 
 pub use list::contacts;

@@ -4,6 +4,7 @@
 -- RegularLaws, of `regularizer` (specs/Actives)
 --   impedance_high         an impedance is at most 0.9999
 --   regular                the regularizer of a row that isn't idle is above 0
+--   low_in_range, high_in_range    a bound on the right side of 0 is one
 --
 -- ReductionLaws, of `diagonal` and `reduction_fault` (specs/Reductions)
 --   diagonal_is, _whole    the diagonal entry of the numbers that were written

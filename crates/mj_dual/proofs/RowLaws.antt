@@ -21,7 +21,7 @@ use Rattle.mj_dual.specs.Actives.{active_entry}
 use Rattle.mj_dual.specs.Reductions.{Dynamics, reduced, diagonal, row_entry, reduction_fault}
 use Rattle.mj_dual.specs.Entries.{HasEntries, IsPushed}
 use Rattle.mj_dual.specs.Assembly.{no_constraint, constraint, is_left_out, listed_row, entry_of, constraint_fault, row_list, is_active, entry_at_place, HasJacobians}
-use Rattle.mj_types.specs.Problems.{HaveSameRoom}
+use Rattle.mj_types.specs.Problems.{HaveSameRoom, IsSolvable}
 use Rattle.mj_dual.specs.Taking.{CanTake, HasTaken, HasAdded, IsHeld, faults_from}
 use Rattle.mj_dual.proofs.TakingLaws.{added-refused}
 use Rattle.mj_dual.proofs.EntryLaws.{entries-ext, entries-skip, entries-push}
@@ -177,9 +177,9 @@ pub one-taken : (m : Model) (y : Dynamics) (c : Constraint) (row : Row) (rows ro
     → entry ≡ row_entry number y row (number_at jacobian) → ((k : ℕ) → k < m.nv → number_at numbers k ≡ reduced y (number_at jacobian) k) → idle ≡ is_none entry
     → rows'.list ≡ record { list = rows.list.list ++ (record row { idle = idle }) ∷ []; most = rows.list.most }
     → rows'.jac ≡ record { list = rows.jac.list ++ jacobian; most = rows.jac.most }
-    → rows'.row ≡ rows.row → rows'.reduced ≡ rows.reduced → IsHeld entry numbers old new → HaveSameRoom old new
+    → rows'.row ≡ rows.row → rows'.reduced ≡ rows.reduced → IsHeld entry numbers old new → HaveSameRoom old new → IsSolvable new
     → HasAdded m y (c ∷ []) None rows rows' old new
-one-taken m y c row rows rows' old new number idle entry jacobian numbers open_ is whole width at passed first value g none list jac same_row same_reduced held room = record {
+one-taken m y c row rows rows' old new number idle entry jacobian numbers open_ is whole width at passed first value g none list jac same_row same_reduced held room solvable = record {
   open_ = record {
     list_room = record {
       list = ap (λ x. x.most) list ∙ open_.list_room.list;
@@ -197,6 +197,7 @@ one-taken m y c row rows rows' old new number idle entry jacobian numbers open_ 
       low = room.low ∙ open_.dual_room.low;
       high = room.high ∙ open_.dual_room.high;
     };
+    solvable = solvable;
     roots = subst (HasRoots y.pivot) (sym same_row) open_.roots;
     whole = (let l : length rows'.jac.list ≡ length rows.jac.list + length jacobian = ap (λ x. length x.list) jac ∙ length-append rows.jac.list jacobian in
         let product : length rows'.list.list * m.nv ≡ (length rows.list.list + 1) * m.nv = ap (λ (k : ℕ). k * m.nv) one_more in

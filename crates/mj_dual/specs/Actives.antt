@@ -1,8 +1,9 @@
 -- A row of the dual whose diagonal entry of A = G G^T is known: its regularizer and its right side, and the first of them that is out of
 -- range. MuJoCo documentation, Computation, constraint model; scales, rounding and ranges are this project's own.
-use Rattle.std.specs.Prelude.{ℕ, ◌^◌, ℤ, ◌-ℤ◌, ◌*ℤ◌, List, Option, Some, None}
+use Rattle.std.specs.Prelude.{◌≡◌, ℕ, ◌^◌, ℤ, ◌-ℤ◌, ◌*ℤ◌, List, Option, Some, None}
 use Rattle.fx_whole.specs.First.{or_first}
 use Rattle.fx_whole.specs.Nearest.{nearest}
+use Rattle.fx_whole.specs.Sums.{sum_to}
 use Rattle.fx_num.specs.declared.number.Number.{Number}
 use Rattle.mj_types.specs.declared.dual.DualRow.{DualRow}
 use Rattle.mj_types.specs.declared.model.Model.{Model}
@@ -12,6 +13,7 @@ use Rattle.mj_types.specs.declared.range.Quantity.{Quantity}
 use Rattle.mj_types.specs.declared.range.Quantity.TheVariants as kind
 use Rattle.mj_types.specs.declared.rows.Row.{Row}
 use Rattle.mj_types.specs.declared.state.State.{State}
+use Rattle.mj_types.specs.Duals.{MayBeSolved}
 use Rattle.mj_types.specs.Parts.{number_at, plain}
 use Rattle.mj_types.specs.Ranges.{limited}
 use Rattle.mj_imp.specs.Impedance.{one, impedance}
@@ -78,3 +80,7 @@ active_entry_at d row x diag c j = record {
 
 abbrev pub active_entry : ℕ → Motion → ℤ → Row → (ℕ → ℤ) → DualRow
 active_entry row x diag c j = active_entry_at (impedance c.soft c.r.mid) row x diag c j
+
+-- a solver may take it, with numbers of which this is the sum of squares
+abbrev pub MayBeSolvedBy : ℤ → DualRow → Type 0
+MayBeSolvedBy diag row = (nv : ℕ) (g : List (Number (Unit {0}) 24)) → diag ≡ sum_to nv (λ k. number_at g k *ℤ number_at g k) → MayBeSolved nv g row

@@ -10,7 +10,7 @@ use Rattle.mj_types.specs.declared.range.OutOfRange.{OutOfRange}
 use Rattle.mj_types.specs.declared.rows.Rows.{Rows}
 use Rattle.mj_types.specs.declared.state.State.{State}
 use Rattle.mj_types.specs.Parts.{number_at}
-use Rattle.mj_types.specs.Problems.{HasRoom}
+use Rattle.mj_types.specs.Problems.{HasRoom, IsSolvable}
 use Rattle.mj_types.specs.RowRooms.{RowsRoom}
 use Rattle.mj_types.specs.States.{Fits}
 use Rattle.mj_factor.specs.Solves.{HasRoots}
@@ -27,10 +27,11 @@ pub record HasDynamics (m : Model) (s : State) (f : Factor) (smooth : List (Numb
   pub width : length smooth ≡ m.nv
   pub small : (k : ℕ) → k < m.nv → unsigned_abs (number_at smooth k) ≤ 2 ^ 56
 
--- ---- where rows can be taken: there is room, the roots of the factor's pivots are held, and no more rows are in the dual than in the list
+-- ---- where rows can be taken: there is room, a solver takes the dual as it is, the roots of the factor's pivots are held, and no more rows are in the dual than in the list
 pub record CanTake (m : Model) (pivot : ℕ → ℤ) (rows : Rows) (d : Dual) : Type 0 where
   pub list_room : RowsRoom m rows
   pub dual_room : HasRoom m.njmax m.nv d
+  pub solvable : IsSolvable d
   pub roots : HasRoots pivot rows.row
   pub whole : length rows.jac.list ≡ length rows.list.list * m.nv
   pub few : d.m ≤ length rows.list.list

@@ -166,6 +166,7 @@ pub(crate) fn active(
         (spec.motion model.now state.now smooth.now) diag.now.raw row.now
         (number_at jacobian.now)) }
     ensures ranges { IfOk result (λ x. IsWithinRanges x) }
+    ensures solvable { IfOk result (λ x. spec.MayBeSolvedBy diag.now.raw x) }
     ensures first { refusal_of result ≡ spec.active_fault number
         (spec.motion model.now state.now smooth.now) diag.now.raw row.now.soft
         row.now.r.mid (number_at jacobian.now) }

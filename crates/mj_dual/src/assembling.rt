@@ -4,7 +4,7 @@ ghost use Rattle.fx_whole.specs.First.{refusal_of};
 ghost use Rattle.mj_types.specs.Applieds.{AreApplied};
 ghost use Rattle.mj_types.specs.Parts.{number_at};
 ghost use Rattle.mj_types.specs.Placed.{AreFrames, placing_of};
-ghost use Rattle.mj_types.specs.Problems.{HasRoom, HaveSameRoom};
+ghost use Rattle.mj_types.specs.Problems.{HasRoom, HaveSameRoom, IsSolvable};
 ghost use Rattle.mj_types.specs.Rooms.{ContactsRoom};
 ghost use Rattle.mj_types.specs.RowRooms.{RowsRoom};
 ghost use Rattle.mj_types.specs.States.{Fits};
@@ -102,6 +102,7 @@ fn clear(rows: &mut Rows, out: &mut Dual)
     ensures row { rows.new.row ≡ rows.old.row }
     ensures reduced { rows.new.reduced ≡ rows.old.reduced }
     ensures empty { out.new.m ≡ 0 }
+    ensures solvable { IsSolvable out.new }
     ensures room { HaveSameRoom out.old out.new }
 {
     rows.list.clear();
@@ -140,6 +141,7 @@ pub fn assemble(
     requires dual_room { HasRoom model.now.njmax model.now.nv out.old }
     ensures rows_room { RowsRoom model.now rows.new }
     ensures dual_room { HasRoom model.now.njmax model.now.nv out.new }
+    ensures solvable { IsSolvable out.new }
     ensures first { refusal_of result ≡ spec.assembly_fault model.now
         (dynamics model.now state.now factor.now smooth.now)
         (all.constraints_of model.now state.now frames.now applied.now contacts.now) }

@@ -10,8 +10,6 @@ mod numbers;
 mod reducing;
 mod taking;
 mod tendons;
-#[cfg(test)]
-mod tests;
 
 pub use assembling::assemble;
 pub use laws::{assembly_reads_dofs, passing_rows_are_found};

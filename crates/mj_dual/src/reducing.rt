@@ -2,7 +2,7 @@
 ghost use Rattle.std.specs.Prelude.{◌≡◌, ℕ, length, ◌^◌, ◌<◌, ◌≤◌, unsigned_abs, IfOk, IfSome, OnOk};
 ghost use Rattle.fx_whole.specs.First.{refusal_of};
 ghost use Rattle.mj_types.specs.declared.range.Quantity.TheVariants as kind;
-ghost use Rattle.mj_types.specs.Duals.{MayBeRow};
+ghost use Rattle.mj_types.specs.Duals.{MayBeRow, MayBeSolved};
 ghost use Rattle.mj_types.specs.Forests.{above_in};
 ghost use Rattle.mj_types.specs.Parts.{number_at};
 ghost use Rattle.mj_types.specs.States.{Fits};
@@ -94,6 +94,7 @@ pub fn reduce(
     ensures numbers { OnOk result ((k : ℕ) → k < model.now.nv → number_at out.new k ≡ spec.reduced
         (spec.dynamics model.now state.now factor.now smooth.now) (number_at jacobian.now) k) }
     ensures lawful { IfOk result (λ x. IfSome x (λ e. MayBeRow model.now.nv out.new e)) }
+    ensures solvable { IfOk result (λ x. IfSome x (λ e. MayBeSolved model.now.nv out.new e)) }
     ensures first { refusal_of result ≡ spec.reduction_fault number
         (spec.dynamics model.now state.now factor.now smooth.now) row.now.soft row.now.r.mid
         (number_at jacobian.now) }

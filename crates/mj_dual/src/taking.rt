@@ -1,9 +1,9 @@
 // Rows are taken one after another into the list of rows and the dual.
 ghost use Rattle.std.specs.Prelude.{◌≡◌, ℕ, length, ◌+◌, ◌^◌, ◌<◌, ◌≤◌, ◌++◌, ◌∷◌, [], unsigned_abs, is_none, IfSome, None, false};
 ghost use Rattle.fx_whole.specs.First.{refusal_of};
-ghost use Rattle.mj_types.specs.Duals.{MayBeRow};
+ghost use Rattle.mj_types.specs.Duals.{MayBeRow, MayBeSolved};
 ghost use Rattle.mj_types.specs.Parts.{number_at};
-ghost use Rattle.mj_types.specs.Problems.{HasSpare, HaveSameRoom};
+ghost use Rattle.mj_types.specs.Problems.{HasSpare, HaveSameRoom, IsSolvable};
 ghost use Rattle.mj_rows.specs.Constraint.{Constraint, row_of, row_fault};
 ghost use Rattle.mj_rows.specs.Working.{IsReady};
 ghost use Rattle.mj_dual.specs.Reductions.{dynamics};
@@ -36,6 +36,9 @@ fn list_row(row: &Row, idle: bool, jacobian: &[Fix<32>], rows: &mut Rows)
 fn hold(entry: &Option<DualRow>, reduced: &[Fix<24>], out: &mut Dual)
     requires spare { HasSpare out.old }
     requires lawful { IfSome entry.now (λ row. MayBeRow out.old.nv reduced.now row) }
+    requires solvable { IsSolvable out.old }
+    requires solved { IfSome entry.now (λ row. MayBeSolved out.old.nv reduced.now row) }
+    ensures solvable { IsSolvable out.new }
     ensures held { spec.IsHeld entry.now reduced.now out.old out.new }
     ensures room { HaveSameRoom out.old out.new }
 {

@@ -4,7 +4,5 @@
 pub mod integration;
 mod joints;
 mod numbers;
-#[cfg(test)]
-mod tests;
 
 pub use integration::integrate;

@@ -1,15 +1,12 @@
 -- What is in its range where there is no fault.
-use Rattle.std.proofs.Common.{◌≡◌, ℕ, ◌+◌, ◌^◌, ◌≤◌, refl, Bool, true, false, ℤ, unsigned_abs, None}
+use Rattle.std.proofs.Common.{◌≡◌, ℕ, ◌+◌, ◌^◌, ◌≤◌, ℤ, unsigned_abs, None}
 use Rattle.std.proofs.lemmas.Bool.{leb-true}
 use Rattle.fx_whole.proofs.FirstLaws.{or_both}
 use Rattle.mj_types.specs.declared.range.Quantity.{Quantity}
 use Rattle.mj_types.specs.declared.range.Quantity.TheVariants as kind
-use Rattle.mj_types.specs.Ranges.{unless, limited, is_within}
+use Rattle.mj_types.specs.Ranges.{limited, is_within}
+use Rattle.mj_types.proofs.RangeLaws.{no_fault}
 use Rattle.mj_factor.specs.Factors.{entry_fault}
-
-no_fault : (good : Bool) (what : Quantity) (index : ℕ) → unless good what index ≡ None → good ≡ true
-no_fault true what index h = refl
-no_fault false what index h = cc
 
 pub limited_within : (what : Quantity) (index limit : ℕ) (n : ℤ) → limited what index limit n ≡ None → unsigned_abs n ≤ limit
 limited_within what index limit n h = leb-true (unsigned_abs n) limit (no_fault (is_within limit n) what index h)

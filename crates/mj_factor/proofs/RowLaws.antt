@@ -1,7 +1,6 @@
 -- Sums for a row of a factor, over the rows that are stored.
-use Rattle.std.proofs.Common.{◌≡◌, ℕ, ◌+◌, ◌*◌, ◌^◌, ◌<◌, ◌≤◌, true, ℤ, pos, ◌*ℤ◌, unsigned_abs, length, replicate, sym, ap, arith, mul-le-mul_right, inl, inr}
-use Rattle.std.proofs.lemmas.Bool.{cases_Bool, cases_lt}
-use Rattle.std.proofs.lemmas.List.{get_or_past, get_or-replicate, length-replicate}
+use Rattle.std.proofs.Common.{◌≡◌, ℕ, ◌+◌, ◌*◌, ◌^◌, ◌<◌, ◌≤◌, true, ℤ, pos, ◌*ℤ◌, unsigned_abs, length, sym, ap, arith, mul-le-mul_right, inl, inr}
+use Rattle.std.proofs.lemmas.Bool.{cases_Bool}
 use Rattle.fx_whole.specs.Sums.{sum_to}
 use Rattle.fx_whole.proofs.Ring.{abs_mul_le}
 use Rattle.fx_whole.proofs.SumLaws.{sum_to-bounded, sum_to-none, when-false, when-size}
@@ -9,8 +8,6 @@ use Rattle.mj_tree.specs.Listing.{start, height}
 use Rattle.mj_tree.proofs.ListingLaws.{start_le, height_less, none_later_is_above}
 use Rattle.mj_types.specs.declared.model.Model.{Model}
 use Rattle.mj_types.specs.declared.carriers.Factor.{Factor}
-use Rattle.fx_num.specs.declared.number.Wide.{Wide}
-use Rattle.mj_types.specs.Duals.{wide_at}
 use Rattle.mj_types.specs.FactorRooms.{FactorRoom}
 use Rattle.mj_types.specs.Forests.{above_in}
 use Rattle.mj_factor.specs.Stored.{row_term, SmallFrom}
@@ -54,11 +51,3 @@ module _ (m : Model) (l w : ℕ → ℤ) (k c : ℕ) where
           sum_to-bounded j (2 ^ 108) (row_term (above_in m) l w k c) (λ i p. term_small i),
           times_64 j (2 ^ 108) (omega (arith, few_dofs m)),
         )
-
--- a sum that wasn't begun
-pub none_begun : (F n c : ℕ) → wide_at {F = F} (replicate n (record { raw = pos 0 })) c ≡ pos 0
-none_begun F n c =
-    elim (cases_lt c n) [
-      | inl h ↦ ap (λ (y : Wide F). y.raw) (get_or-replicate n c (record { raw = pos 0 }) (record { raw = pos 0 }) h)
-      | inr h ↦ ap (λ (y : Wide F). y.raw) (get_or_past (replicate n (record { raw = pos 0 })) c (record { raw = pos 0 }) (omega (arith, length-replicate {A = Wide F} n (record { raw = pos 0 }))))
-    ]

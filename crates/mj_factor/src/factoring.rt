@@ -19,7 +19,7 @@ use fx_whole::{Divisor, narrow};
 use mj_types::{Factor, Mass, Model, OutOfRange, Quantity};
 
 // W and L of a row in one column.
-#[derive(Clone, Copy, Debug)]
+#[derive(Clone, Copy)]
 pub(crate) struct Pair {
     pub(crate) w: Fix<40>,
     pub(crate) l: Fix<32>,

@@ -8,8 +8,6 @@ mod numbers;
 mod passes;
 mod residuals;
 mod solving;
-#[cfg(test)]
-mod tests;
 
 pub use factoring::factor;
 pub use residuals::residual;

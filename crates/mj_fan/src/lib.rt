@@ -3,8 +3,6 @@
 
 pub mod jobs;
 pub mod laws;
-#[cfg(test)]
-mod tests;
 
 pub use jobs::{Gate, Job, NoGate, fan};
 pub use laws::{joined, mapped};

@@ -7,7 +7,7 @@
 --
 -- OwnLaws, of a dual's numbers of its own rows
 --   own-rows *             a problem has the rows of `own`;  own-place: and a dual its places
---   own-regular *, own-holds_zero *      every dual is lawful
+--   own-regular *, own-holds_zero *      every dual is lawful, where a solver takes it
 --
 -- EnclosureLaws (specs/Enclosures)
 --   enclosed *             what a certificate is worth

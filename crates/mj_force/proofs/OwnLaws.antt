@@ -5,10 +5,10 @@ use Rattle.fx_whole.proofs.EntryLaws.{below-within}
 use Rattle.mj_optimum.specs.Problem.{IsRegular, Problem}
 use Rattle.mj_optimum.specs.Feasible.{HoldsZero}
 use Rattle.mj_types.specs.declared.dual.Dual.{Dual}
-use Rattle.mj_types.specs.Problems.{place, problem}
+use Rattle.mj_types.specs.Problems.{IsSolvable, place, problem}
 use Rattle.mj_types.specs.StepValues.{dual_values, own}
 use Rattle.mj_pgs.proofs.SweepLaws.{holds_zero}
-use Rattle.mj_cert.proofs.SolvedLaws.{regular}
+use Rattle.mj_types.proofs.DualLaws.{regular}
 use Rattle.mj_own.specs.Agreement.{HaveSameRows}
 use Rattle.mj_own.proofs.PromiseLaws.{feasible-over, regular-over}
 use Rattle.mj_force.proofs.FaultLaws.{AreNumberedAlike}
@@ -27,9 +27,9 @@ own-rows p = record {
 pub own-place : (d : Dual) → AreNumberedAlike (problem d) (place d) (dual_values d).place
 own-place d i h = sym (below-within 0 d.m (place d) i h)
 
--- ---- every dual is lawful
+-- ---- every dual is lawful, and 0 is a force of each that a solver takes
 pub own-regular : (d : Dual) → IsRegular (dual_values d).problem
 own-regular d = regular-over (problem d) (own (problem d)) (own-rows (problem d)) (regular d)
 
-pub own-holds_zero : (d : Dual) → HoldsZero (dual_values d).problem
-own-holds_zero d = feasible-over (problem d) (own (problem d)) (λ i. pos 0) (pos 1) (own-rows (problem d)) (holds_zero d)
+pub own-holds_zero : (d : Dual) → IsSolvable d → HoldsZero (dual_values d).problem
+own-holds_zero d solvable = feasible-over (problem d) (own (problem d)) (λ i. pos 0) (pos 1) (own-rows (problem d)) (holds_zero d solvable)

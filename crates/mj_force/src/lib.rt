@@ -3,8 +3,6 @@
 
 pub mod laws;
 mod solving;
-#[cfg(test)]
-mod tests;
 
 pub use laws::{duals_are_lawful, forces_are_enclosed, problems_read_own_rows};
 pub use solving::enclose;

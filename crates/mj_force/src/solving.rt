@@ -33,6 +33,7 @@ pub fn enclose(
     forces: &mut Forces,
     cert: &mut Cert,
 ) -> Result<Stop, OutOfRange>
+    requires solvable { problems.IsSolvable dual.now }
     requires forces_room { HasPlaces dual.now forces.old }
     requires lo_room { dual.now.m ≤ length cert.old.lo }
     requires hi_room { dual.now.m ≤ length cert.old.hi }

@@ -6,8 +6,6 @@ mod chain;
 mod growing;
 mod numbers;
 mod tape;
-#[cfg(test)]
-mod tests;
 
 pub use chain::chain_model;
 pub use tape::sine_tape;

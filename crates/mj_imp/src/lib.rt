@@ -3,8 +3,6 @@
 
 pub mod solimp;
 pub mod solref;
-#[cfg(test)]
-mod tests;
 
 pub use solimp::impedance;
 pub use solref::reference;

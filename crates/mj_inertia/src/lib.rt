@@ -5,8 +5,6 @@ mod composing;
 pub mod laws;
 mod matrix;
 mod numbers;
-#[cfg(test)]
-mod tests;
 
 pub use composing::composites;
 pub use laws::{carried_up_is_composite, composite_momentum_is_sum, radii_cover_unrounded};

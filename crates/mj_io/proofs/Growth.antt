@@ -1,6 +1,6 @@
 -- Laws of what a sink holds as it grows.
-use Rattle.std.proofs.Common.{◌<◌, min, length, length-take, take, ◌≡◌, ℕ, List, [], ◌++◌, Option, Some, None, sym, ◌∙◌, ap, refl, subst, append_assoc, arith}
-use Rattle.std.proofs.lemmas.List.{append-nil, take_all}
+use Rattle.std.proofs.Common.{take, ◌≡◌, ℕ, List, [], ◌++◌, Option, Some, None, sym, ◌∙◌, ap, refl, subst, append_assoc}
+use Rattle.std.proofs.lemmas.List.{append-nil}
 use Rattle.mj_io.specs.Growth.{Grew, GrewPart, Gives}
 
 -- nothing was written
@@ -19,15 +19,6 @@ Grew-then (Some xs) (Some ys) (Some zs) x y p q = q ∙ ap (λ s. s ++ y) p ∙ 
 pub Grew-same : (a b : Option (List ℕ)) → b ≡ a → Grew a [] b
 Grew-same a b e = let P : Option (List ℕ) → Type 0 = λ s. Grew a [] s in subst P (sym e) (Grew-nothing a)
 
--- a prefix of a prefix
-pub GrewPart-prefix : (a b : Option (List ℕ)) (x y text : List ℕ) → text ≡ x ++ y → GrewPart a x b → GrewPart a text b
-GrewPart-prefix a b x y text e part = record {
-  prefix = part.prefix;
-  rest = part.rest ++ y;
-  parts = e ∙ ap (λ s. s ++ y) part.parts ∙ append_assoc part.prefix part.rest y;
-  grew = part.grew;
-}
-
 -- a piece was written, and then a prefix of another
 pub Grew-then_part : (a b c : Option (List ℕ)) (x y text : List ℕ) → text ≡ x ++ y → Grew a x b → GrewPart b y c → GrewPart a text c
 Grew-then_part a b c x y text e grew part = record {
@@ -36,10 +27,6 @@ Grew-then_part a b c x y text e grew part = record {
   parts = e ∙ ap (λ s. x ++ s) part.parts ∙ sym (append_assoc x part.prefix part.rest);
   grew = Grew-then a b c x part.prefix grew part.grew;
 }
-
--- a whole is a prefix of itself
-pub GrewPart-whole : (a b : Option (List ℕ)) (x : List ℕ) → Grew a x b → GrewPart a x b
-GrewPart-whole a b x grew = record { prefix = x; rest = []; parts = sym (append-nil x); grew = grew }
 
 -- no byte is a prefix of every text
 pub GrewPart-none : (a b : Option (List ℕ)) (x : List ℕ) → b ≡ a → GrewPart a x b
@@ -50,17 +37,7 @@ pub GrewPart-stopped : (a b c : Option (List ℕ)) (x y text : List ℕ) → tex
 GrewPart-stopped a b c x y text e grew same =
     Grew-then_part a b c x y text e grew (GrewPart-none b c y same)
 
--- a piece was written to a sink that held the same
-pub Grew-from_same : (a b c : Option (List ℕ)) (x : List ℕ) → b ≡ a → Grew b x c → Grew a x c
-Grew-from_same a b c x e grew = let P : Option (List ℕ) → Type 0 = λ s. Grew s x c in subst P e grew
-
 -- what was given is the first `cap` bytes of a text that is held
 pub Gives-held : (held : Option (List ℕ)) (cap : ℕ) (bytes : List ℕ) → Gives held cap bytes → (text : List ℕ) × (held ≡ Some text) × (bytes ≡ take cap text)
 Gives-held None cap bytes g = absurd g
 Gives-held (Some text) cap bytes g = (text, refl, g)
-
--- fewer bytes than asked for are all that is held
-pub Gives-whole : (text : List ℕ) (cap : ℕ) (bytes : List ℕ) → Gives (Some text) cap bytes → length bytes < cap → bytes ≡ text
-Gives-whole text cap bytes g few =
-    let n : length bytes ≡ min cap (length text) = ap length g ∙ length-take cap text in
-    g ∙ take_all cap text (omega arith)

@@ -1,47 +1,20 @@
 -- Laws of writing through a page.
 use Rattle.std.proofs.Common.{◌<◌, ◌+◌, length, take, get_or, ◌≡◌, ◌≤◌, ℕ, Bool, true, false, List, [], ◌∷◌, ◌++◌, Option, Result, Ok, Err, is_ok, sym, ◌∙◌, ap, refl, subst, append_assoc, arith}
-use Rattle.std.proofs.lemmas.List.{append-nil, take_all, take_more, flat_map_more}
+use Rattle.std.proofs.lemmas.List.{append-nil, take_more, flat_map_more}
 use Rattle.std.specs.List.{flat_map}
-use Rattle.mj_io.specs.Faults.{Rose}
 use Rattle.mj_io.specs.Growth.{Grew, GrewPart}
 use Rattle.mj_io.specs.Sent.{Gathered, Sent, Wrote, empty_page, fresh_page}
 use Rattle.mj_io.proofs.Faults.{Rose-then_later, Rose-after}
-use Rattle.mj_io.proofs.Growth.{Grew-nothing, Grew-then, Grew-same}
+use Rattle.mj_io.proofs.Growth.{Grew-nothing, Grew-then}
 
 -- a test by cases, with what it is
 by_bool : (b : Bool) {P : Type 0} → (b ≡ true → P) → (b ≡ false → P) → P
 by_bool true {P} t f = t refl
 by_bool false {P} t f = f refl
 
--- nothing went out, and the text waits
-pub Sent-gathered : {K : Type 0} (holds : K → Option (List ℕ)) (faults : K → ℕ) (a b : K) (from : Gathered) (text : List ℕ) (to : Gathered) → b ≡ a → to ≡ record { pending = from.pending ++ text; going = from.going } → Sent holds faults a from text b to
-Sent-gathered holds faults a b from text to same e = record {
-  prefix = [];
-  rest = from.pending ++ text;
-  parts = refl;
-  grew = Grew-same (holds a) (holds b) (ap holds same);
-  waits = λ _. ap (λ p. p.pending) e;
-  stopped = λ s. (ap (λ p. p.going) e ∙ s, ap holds same);
-  later = let f = ap faults same in omega arith;
-  cause = λ on off. let g : to.going ≡ from.going = ap (λ p. p.going) e in cc;
-}
-
--- the writing had stopped, and nothing changed
-pub Sent-stopped : {K : Type 0} (holds : K → Option (List ℕ)) (faults : K → ℕ) (a b : K) (from : Gathered) (text : List ℕ) (to : Gathered) → b ≡ a → from.going ≡ false → to.going ≡ false → Sent holds faults a from text b to
-Sent-stopped holds faults a b from text to same before after = record {
-  prefix = [];
-  rest = from.pending ++ text;
-  parts = refl;
-  grew = Grew-same (holds a) (holds b) (ap holds same);
-  waits = λ on. cc;
-  stopped = λ s. (after, ap holds same);
-  later = let f = ap faults same in omega arith;
-  cause = λ on off. cc;
-}
-
 -- all went out from an empty page
-pub Sent-whole : {K : Type 0} (holds : K → Option (List ℕ)) (faults : K → ℕ) (a b : K) (text : List ℕ) → Grew (holds a) text (holds b) → faults a ≤ faults b → Sent holds faults a (empty_page true) text b (empty_page true)
-Sent-whole holds faults a b text grew later = record {
+pub Sent-whole : {K : Type 0} (holds : K → Option (List ℕ)) (faults : K → ℕ) (a b : K) (text : List ℕ) → Grew (holds a) text (holds b) → faults a ≤ faults b → faults b ≡ faults a → Sent holds faults a (empty_page true) text b (empty_page true)
+Sent-whole holds faults a b text grew later calm = record {
   prefix = text;
   rest = [];
   parts = sym (append-nil text);
@@ -49,41 +22,9 @@ Sent-whole holds faults a b text grew later = record {
   waits = λ _. refl;
   stopped = λ s. cc;
   later = later;
+  calm = λ _. calm;
   cause = λ on off. cc;
 }
-
--- a prefix went out from an empty page, and the writing stopped at a fault
-pub Sent-cut : {K : Type 0} (holds : K → Option (List ℕ)) (faults : K → ℕ) (a b : K) (text : List ℕ) → GrewPart (holds a) text (holds b) → Rose (faults a) (faults b) → faults a ≤ faults b → Sent holds faults a (empty_page true) text b (empty_page false)
-Sent-cut holds faults a b text part rose later = record {
-  prefix = part.prefix;
-  rest = part.rest;
-  parts = part.parts;
-  grew = part.grew;
-  waits = λ s. cc;
-  stopped = λ s. cc;
-  later = later;
-  cause = λ on off. rose;
-}
-
--- what a page held went out, as a text from an empty page would have
-pub Sent-flushed : {K : Type 0} (holds : K → Option (List ℕ)) (faults : K → ℕ) (a b : K) (from to : Gathered) (text : List ℕ) (on off : Bool) → Sent holds faults a (empty_page on) text b (empty_page off) → from ≡ record { pending = text; going = on } → to ≡ empty_page off → Sent holds faults a from [] b to
-Sent-flushed holds faults a b from to text on off sent e d = record {
-  prefix = sent.prefix;
-  rest = sent.rest;
-  parts = append-nil from.pending ∙ ap (λ p. p.pending) e ∙ sent.parts;
-  grew = sent.grew;
-  waits = λ s. ap (λ p. p.pending) d ∙ sent.waits (sym (ap (λ p. p.going) d) ∙ s);
-  stopped = λ s. let q = sent.stopped (sym (ap (λ p. p.going) e) ∙ s) in (ap (λ p. p.going) d ∙ q.0, q.1);
-  later = sent.later;
-  cause = λ s t. sent.cause (sym (ap (λ p. p.going) e) ∙ s) (sym (ap (λ p. p.going) d) ∙ t);
-}
-
--- a text went out straight from a page that held nothing
-pub Sent-straight : {K : Type 0} (holds : K → Option (List ℕ)) (faults : K → ℕ) (a b : K) (from to : Gathered) (text : List ℕ) (on off : Bool) → Sent holds faults a (empty_page on) text b (empty_page off) → from ≡ empty_page on → to ≡ empty_page off → Sent holds faults a from text b to
-Sent-straight holds faults a b from to text on off sent e d =
-    let P : Gathered → Type 0 = λ p. Sent holds faults a p text b to in
-    let Q : Gathered → Type 0 = λ p. Sent holds faults a (empty_page on) text b p in
-    subst P (sym e) (subst Q (sym d) sent)
 
 sent-then_on : {K : Type 0} {holds : K → Option (List ℕ)} {faults : K → ℕ} {a b c : K} {from mid to : Gathered} {x y text : List ℕ} → Sent holds faults a from x b mid → Sent holds faults b mid y c to → text ≡ x ++ y → mid.going ≡ true → Sent holds faults a from text c to
 sent-then_on {K} {holds} {faults} {a} {b} {c} {from} {mid} {to} {x} {y} {text} p q e on = record {
@@ -97,6 +38,7 @@ sent-then_on {K} {holds} {faults} {a} {b} {c} {from} {mid} {to} {x} {y} {text} p
   waits = q.waits;
   stopped = λ s. let h = p.stopped s in let k = q.stopped h.0 in (k.0, k.1 ∙ h.1);
   later = let h = p.later in let k = q.later in omega arith;
+  calm = λ t. q.calm t ∙ p.calm on;
   cause = λ s t. Rose-after (faults a) (faults b) (faults c) p.later (q.cause on t);
 }
 
@@ -111,6 +53,7 @@ sent-then_off {K} {holds} {faults} {a} {b} {c} {from} {mid} {to} {x} {y} {text} 
   waits = λ s. let h = (q.stopped off).0 in cc;
   stopped = λ s. let h = p.stopped s in let k = q.stopped h.0 in (k.0, k.1 ∙ h.1);
   later = let h = p.later in let k = q.later in omega arith;
+  calm = λ t. let h = (q.stopped off).0 in cc;
   cause = λ s t. Rose-then_later (faults a) (faults b) (faults c) (p.cause s off) q.later;
 }
 
@@ -124,12 +67,6 @@ sent-more text items i x d within is p q =
     let prefix : take (i + 1) items ≡ take i items ++ x ∷ [] = take_more items i d within ∙ ap (λ y. take i items ++ y ∷ []) (sym is) in
     sent-then p q (ap (λ xs. flat_map text xs) prefix ∙ sym (flat_map_more text [] (take i items) x))
 
--- the texts of all items of a list were sent
-pub sent-all : {K X : Type 0} {holds : K → Option (List ℕ)} {faults : K → ℕ} {a b : K} {from to : Gathered} (text : X → List ℕ) (items : List X) (i : ℕ) → length items ≤ i → Sent holds faults a from (flat_map text (take i items)) b to → Sent holds faults a from (flat_map text items) b to
-sent-all {holds = holds} {faults = faults} {a = a} {b = b} {from = from} {to = to} text items i done p =
-    let P = λ (xs : List _). Sent holds faults a from (flat_map text xs) b to in
-    subst P (take_all i items done) p
-
 -- no text was sent
 pub sent-nothing : {K : Type 0} (holds : K → Option (List ℕ)) (faults : K → ℕ) (a : K) (from : Gathered) → Sent holds faults a from [] a from
 sent-nothing holds faults a from = record {
@@ -140,6 +77,7 @@ sent-nothing holds faults a from = record {
   waits = λ _. refl;
   stopped = λ s. (s, refl);
   later = omega arith;
+  calm = λ _. refl;
   cause = λ s t. cc;
 }
 
@@ -153,6 +91,7 @@ sent-past {from = from} {x = x} y p e off = record {
   waits = λ s. cc;
   stopped = p.stopped;
   later = p.later;
+  calm = p.calm;
   cause = p.cause;
 }
 
@@ -168,9 +107,10 @@ wrote-from_sent {holds = holds} {a = a} {b = b} (Ok x) p = record {
       subst P (sym (p.parts ∙ ap (λ s. p.prefix ++ s) (sym (p.waits refl)) ∙ append-nil p.prefix)) p.grew;
   part = tt;
   cause = tt;
+  calm = p.calm refl;
   later = p.later;
 }
-wrote-from_sent (Err e) p = record { whole = tt; part = sent-part p; cause = p.cause refl refl; later = p.later }
+wrote-from_sent (Err e) p = record { whole = tt; part = sent-part p; cause = p.cause refl refl; calm = tt; later = p.later }
 
 -- a text was sent through a fresh_page page, and the writing was finished
 pub wrote-finished : {K T E : Type 0} {holds : K → Option (List ℕ)} {faults : K → ℕ} {a b c : K} {from mid : Gathered} {text : List ℕ} (result : Result T E) → from ≡ fresh_page → Sent holds faults a from text b mid → Sent holds faults b mid [] c (empty_page (is_ok result)) → Wrote holds faults a text result c

@@ -3,6 +3,10 @@ use Rattle.std.specs.Prelude.{◌≡◌, ◌≤◌, ℕ, Bool, true, false, List
 use Rattle.mj_io.specs.Faults.{Rose}
 use Rattle.mj_io.specs.Growth.{Grew, GrewPart}
 
+-- how many bytes a page holds
+abbrev pub page_size : ℕ
+page_size = 65536
+
 -- what a page holds that isn't written yet, and whether the writing goes on
 pub record Gathered : Type 0 where
   pub pending : List ℕ
@@ -18,7 +22,7 @@ fresh_page = empty_page true
 
 -- `text` was sent to the sink `old` through the page `from`: the sink grew by a prefix of what was
 -- pending and the text, and the rest is pending as long as the writing goes on. It stops at a
--- fault, and nothing is written after
+-- fault, and nothing is written after; as long as it goes on, no fault was counted
 pub record Sent {K : Type 0} (holds : K → Option (List ℕ)) (faults : K → ℕ) (old : K) (from : Gathered) (text : List ℕ) (new : K) (to : Gathered) : Type 0 where
   pub prefix : List ℕ
   pub rest : List ℕ
@@ -27,11 +31,13 @@ pub record Sent {K : Type 0} (holds : K → Option (List ℕ)) (faults : K → �
   pub waits : to.going ≡ true → to.pending ≡ rest
   pub stopped : from.going ≡ false → (to.going ≡ false) × (holds new ≡ holds old)
   pub later : faults old ≤ faults new
+  pub calm : to.going ≡ true → faults new ≡ faults old
   pub cause : from.going ≡ true → to.going ≡ false → Rose (faults old) (faults new)
 
--- a whole text was written, or a prefix of it and the count rose
+-- a whole text was written and the count stayed, or a prefix of it and the count rose
 pub record Wrote {K T E : Type 0} (holds : K → Option (List ℕ)) (faults : K → ℕ) (old : K) (text : List ℕ) (result : Result T E) (new : K) : Type 0 where
   pub whole : OnOk result (Grew (holds old) text (holds new))
   pub part : OnErr result (GrewPart (holds old) text (holds new))
   pub cause : OnErr result (Rose (faults old) (faults new))
+  pub calm : OnOk result (faults new ≡ faults old)
   pub later : faults old ≤ faults new

@@ -28,6 +28,3 @@ pub use system::{FileCabinet, OutSink};
 /// Memory was wanted and not found.
 #[derive(Clone, Copy, Debug, PartialEq, Eq)]
 pub struct NoMemory;
-
-#[cfg(test)]
-mod tests;

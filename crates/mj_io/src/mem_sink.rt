@@ -136,6 +136,7 @@ impl Sink for MemSink {
             (λ n. Grew (Some self.old.held) (take n piece.now) (Some self.new.held)) }
         ensures unchanged { OnErr result (Some self.new.held ≡ Some self.old.held) }
         ensures cause { OnErr result (Rose self.old.count self.new.count) }
+        ensures calm { OnOk result (self.new.count ≡ self.old.count) }
         ensures later { self.old.count ≤ self.new.count }
         ensures bounded { self.new.count ≤ count_limit }
         ensures fault { is_err result ≡ spec.write_fails self.old }

@@ -53,13 +53,13 @@ impl Page {
 
     // Whether `count` more bytes have room.
     fn fits(&self, count: usize) -> bool
-        ensures { IsTrue result ↔ (length self.now.pending + count ≤ PAGE_SIZE) }
+        ensures { IsTrue result ↔ (length self.now.pending + count ≤ spec.page_size) }
     {
         count <= PAGE_SIZE - self.len
     }
 
     fn gather(&mut self, bytes: &[u8])
-        requires { length self.old.pending + length bytes.now ≤ PAGE_SIZE }
+        requires { length self.old.pending + length bytes.now ≤ spec.page_size }
         ensures { self.new ≡
             record { pending = self.old.pending ++ bytes.now; going = self.old.going } }
     {
@@ -118,9 +118,10 @@ fn turn<S: Sink>(sink: &mut S, page: &mut Page, bytes: &[u8])
 /// is written; else the page is flushed first, and a piece longer than a page goes out directly.
 pub fn send<S: Sink>(sink: &mut S, page: &mut Page, bytes: &[u8])
     ensures sent { spec.Sent S.holds S.faults sink.old page.old bytes.now sink.new page.new }
-    ensures gathers { length page.old.pending + length bytes.now ≤ PAGE_SIZE →
+    ensures gathers { length page.old.pending + length bytes.now ≤ spec.page_size →
         page.new ≡ record { pending = page.old.pending ++ bytes.now; going = page.old.going } }
-    ensures waits { length page.old.pending + length bytes.now ≤ PAGE_SIZE → sink.new ≡ sink.old }
+    ensures waits { length page.old.pending + length bytes.now ≤ spec.page_size
+        → sink.new ≡ sink.old }
 {
     if page.fits(bytes.len()) {
         page.gather(bytes);
@@ -144,6 +145,8 @@ pub fn finish<S: Sink>(sink: &mut S, page: &mut Page) -> Result<(), Failed>
 pub fn send_signed<S: Sink>(sink: &mut S, page: &mut Page, n: &i64)
     ensures sent { spec.Sent S.holds S.faults sink.old page.old (signed_decimal n.now)
         sink.new page.new }
+    ensures waits { length page.old.pending + length (signed_decimal n.now) ≤ spec.page_size
+        → sink.new ≡ sink.old }
 {
     let mut buffer = Buffer::new();
     send(sink, page, buffer.format(*n).as_bytes());
@@ -153,6 +156,8 @@ pub fn send_signed<S: Sink>(sink: &mut S, page: &mut Page, n: &i64)
 pub fn send_wide<S: Sink>(sink: &mut S, page: &mut Page, n: &i128)
     ensures sent { spec.Sent S.holds S.faults sink.old page.old (signed_decimal n.now)
         sink.new page.new }
+    ensures waits { length page.old.pending + length (signed_decimal n.now) ≤ spec.page_size
+        → sink.new ≡ sink.old }
 {
     let mut buffer = Buffer::new();
     send(sink, page, buffer.format(*n).as_bytes());
@@ -161,6 +166,8 @@ pub fn send_wide<S: Sink>(sink: &mut S, page: &mut Page, n: &i128)
 /// Sends an unsigned number in decimal digits.
 pub fn send_unsigned<S: Sink>(sink: &mut S, page: &mut Page, n: u64)
     ensures sent { spec.Sent S.holds S.faults sink.old page.old (decimal n) sink.new page.new }
+    ensures waits { length page.old.pending + length (decimal n) ≤ spec.page_size
+        → sink.new ≡ sink.old }
 {
     let mut buffer = Buffer::new();
     send(sink, page, buffer.format(n).as_bytes());
@@ -169,6 +176,8 @@ pub fn send_unsigned<S: Sink>(sink: &mut S, page: &mut Page, n: u64)
 /// Sends a size or an index in decimal digits.
 pub fn send_size<S: Sink>(sink: &mut S, page: &mut Page, n: usize)
     ensures sent { spec.Sent S.holds S.faults sink.old page.old (decimal n) sink.new page.new }
+    ensures waits { length page.old.pending + length (decimal n) ≤ spec.page_size
+        → sink.new ≡ sink.old }
 {
     let mut buffer = Buffer::new();
     send(sink, page, buffer.format(n).as_bytes());

@@ -1,5 +1,5 @@
 // A sink in memory for tests of texts: it never fails.
-ghost use Rattle.std.specs.Prelude.{◌≡◌, ◌<◌, ◌≤◌, ◌^◌, ◌-◌, ℕ, List, [], Option, None, Some, Ok, take, length, IfOk, OnErr, option_copied};
+ghost use Rattle.std.specs.Prelude.{◌≡◌, ◌<◌, ◌≤◌, ◌^◌, ◌-◌, ℕ, List, [], Option, None, Some, Ok, take, length, IfOk, OnOk, OnErr, option_copied};
 ghost use Rattle.mj_io.specs.Faults.{Rose, count_limit};
 ghost use Rattle.mj_io.specs.Growth.{Grew};
 ghost use Rattle.mj_io.specs.Roomy as spec;
@@ -79,6 +79,7 @@ impl Sink for RoomSink {
         ensures grew { IfOk result (λ n. Grew self.old.text (take n piece.now) self.new.text) }
         ensures unchanged { OnErr result (self.new.text ≡ self.old.text) }
         ensures cause { OnErr result (Rose 0 0) }
+        ensures calm { OnOk result (◌≡◌ {A = ℕ} 0 0) }
         ensures later { 0 ≤ 0 }
         ensures bounded { 0 ≤ count_limit }
         ensures whole { result ≡ Ok (length piece.now) }

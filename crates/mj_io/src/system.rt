@@ -1,5 +1,5 @@
 // The system's files and output. No contract knows what they hold.
-ghost use Rattle.std.specs.Prelude.{◌≡◌, ◌<◌, ◌≤◌, ◌+◌, ◌^◌, ◌-◌, ℕ, List, Err, take, length, cond, IfOk, OnErr, IsTrue, is_err, vec_len, false};
+ghost use Rattle.std.specs.Prelude.{◌≡◌, ◌<◌, ◌≤◌, ◌+◌, ◌^◌, ◌-◌, ℕ, List, Err, take, length, cond, IfOk, OnOk, OnErr, IsTrue, is_err, vec_len, false};
 ghost use Rattle.mj_io.specs.Faults.{Rose, count_limit};
 ghost use Rattle.mj_io.specs.Growth.{Gives, Grew, untold};
 ghost use Rattle.mj_io.specs.Shelf.{is_fault};
@@ -106,6 +106,7 @@ impl<'a, R: Print> Sink for OutSink<'a, R> {
         ensures grew { IfOk result (λ n. Grew untold (take n piece.now) untold) }
         ensures unchanged { OnErr result (untold ≡ untold) }
         ensures cause { OnErr result (Rose self.old self.new) }
+        ensures calm { OnOk result (self.new ≡ self.old) }
         ensures later { self.old ≤ self.new }
         ensures bounded { self.new ≤ count_limit }
         ensures after { self.new ≡ spec.count_after (is_err result) self.old }

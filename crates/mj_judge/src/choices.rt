@@ -158,7 +158,7 @@ pub fn range(xs: &Option<Array<Fix<32>>>, limit: u64) -> Result<Option<Range>, M
 }
 
 /// How large a geom is: its radius, and half its length.
-#[derive(Clone, Copy, Debug, PartialEq, Eq)]
+#[derive(Clone, Copy)]
 pub struct Extent {
     pub radius: Fix<32>,
     pub half: Fix<32>,

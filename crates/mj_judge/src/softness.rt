@@ -8,14 +8,14 @@ use fx_num::{Fix, Number};
 use mj_types::{ModelCode, Soft};
 
 /// Solref's two numbers: a time constant and a damping ratio, or minus a stiffness and a damping.
-#[derive(Clone, Copy, Debug, PartialEq, Eq)]
+#[derive(Clone, Copy)]
 pub struct Solref {
     pub tc: Fix<32>,
     pub dr: Fix<32>,
 }
 
 /// The numbers of solimp.
-#[derive(Clone, Copy, Debug, PartialEq, Eq)]
+#[derive(Clone, Copy)]
 pub struct Solimp {
     pub dmin: Fix<32>,
     pub dmax: Fix<32>,

@@ -20,6 +20,7 @@ use Rattle.mj_types.specs.Parts.{body, no_vector, no_quaternion, no_inertia, no_
 use Rattle.mj_types.specs.Placed.{Placing, placing_of, AreFrames, WithinInertia, inertia_at}
 use Rattle.mj_types.specs.Ranges.{unless}
 use Rattle.mj_types.specs.Rooms.{FramesRoom}
+use Rattle.mj_types.proofs.RangeLaws.{no_fault}
 use Rattle.mj_kin.specs.Poses.{Pose, pose}
 use Rattle.mj_kin.specs.Bodies.{center, body_inertia, inertia_of, inertia_from, is_near, is_light, light_fault, inertia_fault}
 use Rattle.mj_kin.specs.Columns.{column}
@@ -51,11 +52,6 @@ placing-is m s f room posed massed set columns =
     ∙ ap (λ x. made new.position new.orientation new.center new.inertia x old.geom_position old.geom_orientation) t
     ∙ ap (λ x. made new.position new.orientation new.center new.inertia new.column x old.geom_orientation) g
     ∙ ap (λ x. made new.position new.orientation new.center new.inertia new.column new.geom_position x) r
-
--- ---- ranges
-pub no_fault : (good : Bool) (what : Quantity) (index : ℕ) → unless good what index ≡ None → good ≡ true
-no_fault true what index h = refl
-no_fault false what index h = cc
 
 near_within : (limit : ℕ) (v : Triple ℤ) → is_near limit v ≡ true → Within v limit
 near_within limit v h = record { x = grind (arith, nat_tests); y = grind (arith, nat_tests); z = grind (arith, nat_tests) }

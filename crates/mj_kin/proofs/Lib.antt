@@ -5,7 +5,7 @@
 -- FrameLaws, of carriers that are filled: they hold the placing, within its ranges
 -- ListLaws, of a list that is written from a base on
 -- MarkLaws, of `AreMarked` (specs/Working): one joint more
--- RotationLaws: a rotated vector is at most twelve times as large, also where the quaternion is no unit
+-- RotationLaws: a rotated vector is at most twelve times as large, also where the quaternion is no unit; a turn by nothing changes nothing
 -- PlaceLaws, of the lists while bodies are placed (specs/Working): poses by number, reference points, one body more
 -- ResultLaws: two clauses on one answer
 pub mod FrameLaws

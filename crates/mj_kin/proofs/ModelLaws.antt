@@ -10,6 +10,7 @@ use Rattle.mj_types.specs.declared.parts.JointKind.TheVariants.{Free, Ball, Hing
 use Rattle.mj_types.specs.Lawful.{is_free, velocities_before}
 use Rattle.mj_types.specs.Parts.{body, joint, position_count, velocity_count}
 use Rattle.mj_types.specs.States.{Fits}
+use Rattle.mj_types.proofs.ModelLaws.{few_joints}
 use Rattle.mj_kin.specs.Poses.{own_joint}
 use Rattle.mj_kin.specs.Working.{HasPositions}
 
@@ -46,36 +47,5 @@ pub velocity_before : (m : Model) (k j i : ℕ) → k < j → j < length m.joint
 velocity_before m k j i l h p =
     omega (arith, m.of_joints.dadr k (omega arith), m.of_joints.dadr j h, sum_ℕ_to-le (suc k) j (λ (a : ℕ). velocity_count (joint m.joints a).kind) l)
 
--- each joint has a velocity, so there are at most 64
-some_velocity : (k : JointKind) → 1 ≤ velocity_count k
-some_velocity Free = omega arith
-some_velocity Ball = omega arith
-some_velocity Hinge = omega arith
-some_velocity Slide = omega arith
-
-many_velocities : (m : Model) (n : ℕ) → n ≤ velocities_before m.joints n
-many_velocities m zero = omega arith
-many_velocities m (suc n) = omega (arith, many_velocities m n, some_velocity (joint m.joints n).kind)
-
-pub few_joints : (m : Model) → length m.joints ≤ 64
-few_joints m = omega (arith, many_velocities m (length m.joints), m.of_joints.velocities, m.of_joints.few)
-
 pub few_own : (m : Model) (b : ℕ) → b < length m.bodies → (body m.bodies b).jntnum ≤ 64
 few_own m b h = omega (arith, few_joints m, m.of_joints.whole, sum_ℕ_to-le (suc b) (length m.bodies) (λ a. (body m.bodies a).jntnum) h)
-
--- ---- the root of a body's tree stands at the body or before it
-pub root_there : (m : Model) (b : ℕ) → b < length m.bodies → (1 ≤ (body m.bodies b).root) × ((body m.bodies b).root ≤ b + 1)
-root_there m b h = upto (b + 1) b (omega arith) h
-  where
-    upto : (n b : ℕ) → b < n → b < length m.bodies → (1 ≤ (body m.bodies b).root) × ((body m.bodies b).root ≤ b + 1)
-    upto zero b l h = absurd (omega arith)
-    upto (suc n) b l h =
-        let p = (body m.bodies b).parent in
-        elim (cases_eq p 0) [
-          | inl e ↦ (let r : (body m.bodies b).root ≡ suc b = m.of_bodies.roots b h ∙ cond-true (p == 0) (suc b) (body m.bodies (p - 1)).root (eq-eqb p 0 e) in (omega arith, omega arith))
-          | inr e ↦ (
-              let r : (body m.bodies b).root ≡ (body m.bodies (p - 1)).root = m.of_bodies.roots b h ∙ cond-false (p == 0) (suc b) (body m.bodies (p - 1)).root (ne_eqb p 0 e) in
-              let le : p ≤ b = m.of_bodies.parents b h in
-              let up = upto n (p - 1) (omega arith) (omega arith) in
-              (omega arith, omega arith))
-        ]

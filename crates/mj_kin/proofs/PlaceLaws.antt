@@ -20,7 +20,7 @@ use Rattle.mj_kin.specs.Working.{entry_pose, listed_pose, AreNear, ArePosed, Are
 use Rattle.mj_kin.specs.Columns.{column, dof_direction}
 use Rattle.mj_quat.specs.Rotation.{IsUnit}
 use Rattle.mj_kin.specs.Placings.{geom_pose}
-use Rattle.mj_kin.proofs.ModelLaws.{root_there}
+use Rattle.mj_types.proofs.ModelLaws.{root_there}
 use Rattle.mj_kin.proofs.PoseLaws.{pose-zero}
 
 -- the pose of a body by its number

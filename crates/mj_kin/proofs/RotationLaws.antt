@@ -1,12 +1,24 @@
--- Vectors turned by a quaternion that is no unit, whose numbers are at most 1.
-use Rattle.std.proofs.Common.{ℕ, ◌*◌, ◌^◌, ◌≤◌, ℤ, pos, ◌+ℤ◌, ◌-ℤ◌, ◌*ℤ◌, ◌≤ℤ◌, unsigned_abs, arith}
+-- Vectors turned by a quaternion that is no unit, whose numbers are at most 1, and turns by nothing.
+use Rattle.std.proofs.Common.{◌≡◌, ℕ, ◌*◌, ◌^◌, ◌≤◌, ℤ, pos, ◌+ℤ◌, ◌-ℤ◌, ◌*ℤ◌, ◌≤ℤ◌, unsigned_abs, ap, sym, ◌∙◌, arith}
 use Rattle.std.proofs.lemmas.Int.{ints}
+use Rattle.fx_whole.proofs.NearestLaws.{nearest-multiple, nearest-zero}
 use Rattle.fx_whole.proofs.Ring.{abs_mul_le, square_nonneg}
-use Rattle.fx_vec.specs.Vectors.{Triple}
+use Rattle.fx_vec.specs.Vectors.{Triple, dot, no_vector}
+use Rattle.fx_vec.specs.Settling.{along}
 use Rattle.fx_vec.specs.Sizes.{Within}
 use Rattle.fx_vec.proofs.Bounds.{along-le}
-use Rattle.mj_quat.specs.Rotation.{Quaternion, WithinQuaternion, round, row_x, row_y, row_z, rotate}
+use Rattle.fx_vec.proofs.Same.{same3}
+use Rattle.mj_quat.specs.Rotation.{Quaternion, WithinQuaternion, round, product, row_x, row_y, row_z, rotate, rotate_by}
 use Rattle.mj_quat.proofs.RotationLaws.{round-le}
+use Rattle.mj_kin.specs.Poses.{world}
+
+abbrev four : ℤ → ℤ → ℤ → ℤ → Quaternion
+four w x y z = record { w = w; x = x; y = y; z = z }
+
+-- quaternions of the same numbers
+same_quaternion : (a b : Quaternion) → a.w ≡ b.w → a.x ≡ b.x → a.y ≡ b.y → a.z ≡ b.z → a ≡ b
+same_quaternion a b e f g h =
+    ap (λ w. four w a.x a.y a.z) e ∙ ap (λ x. four b.w x a.y a.z) f ∙ ap (λ y. four b.w b.x y a.z) g ∙ ap (λ z. four b.w b.x b.y z) h
 
 square_le : (a : ℤ) → unsigned_abs a ≤ 2 ^ 32 → unsigned_abs (a *ℤ a) ≤ 2 ^ 64
 square_le a h = abs_mul_le a a (2 ^ 32) (2 ^ 32) h h
@@ -53,3 +65,24 @@ rotate-within q v h i j = record {
   y = along-le (row_y q) v h 4 (row_y_within q i) j;
   z = along-le (row_z q) v h 4 (row_z_within q i) j;
 }
+
+-- ---- turns by nothing
+round_multiple : (n k : ℤ) → n ≡ k *ℤ pos (2 ^ 32) → round n ≡ k
+round_multiple n k e = ap round e ∙ nearest-multiple k (pos (2 ^ 32)) (omega (arith, ints))
+
+pub product-unturned : (a b : Quaternion) → b ≡ world.orientation → product a b ≡ a
+unfolding product
+product-unturned a b e =
+    ap (product a) e
+    ∙ same_quaternion (product a world.orientation) a
+    (round_multiple _ a.w (omega (arith, ints)))
+    (round_multiple _ a.x (omega (arith, ints)))
+    (round_multiple _ a.y (omega (arith, ints)))
+    (round_multiple _ a.z (omega (arith, ints)))
+
+along-nothing : (row : Triple ℤ) → along row no_vector ≡ pos 0
+along-nothing row = let e : dot row no_vector ≡ pos 0 = omega (arith, ints) in ap round e ∙ nearest-zero (pos (2 ^ 32))
+
+pub rotate_by-nothing : (m : Triple (Triple ℤ)) (v : Triple ℤ) → v ≡ no_vector → rotate_by m v ≡ v
+rotate_by-nothing m v e =
+    ap (rotate_by m) e ∙ same3 (rotate_by m no_vector) no_vector (along-nothing m.x) (along-nothing m.y) (along-nothing m.z) ∙ sym e

@@ -1,5 +1,5 @@
 // Each body in its place: its pose from its parent's, and then its centre of mass and its inertia.
-ghost use Rattle.std.specs.Prelude.{◌≡◌, ℕ, ◌+◌, ◌-◌, ◌^◌, ◌<◌, ◌≤◌, ◌==◌, if◌then◌else◌, length, IsTrue, IfOk};
+ghost use Rattle.std.specs.Prelude.{◌≡◌, ℕ, ◌+◌, ◌-◌, ◌^◌, ◌<◌, ◌≤◌, ◌==◌, if◌then◌else◌, length, IfOk};
 ghost use Rattle.fx_whole.specs.First.{refusal_of};
 ghost use Rattle.fx_vec.specs.Quaternions.{quaternion, WithinQuaternion};
 ghost use Rattle.fx_vec.specs.Sizes.{Within};
@@ -20,10 +20,10 @@ use crate::frame::Frame;
 use crate::inertias::inertia_from;
 use crate::joints::move_joints;
 use crate::leaves::{attach, carried, follow, frame_of, is_near};
+use crate::skipping::matrix_beside;
 use fx_list::Array;
 use fx_num::Plain;
 use fx_vec::{Inertia10, M3, Q4, V3, minus};
-use mj_quat::matrix;
 use mj_types::{Body, Frames, Model, OutOfRange, Quantity, State};
 
 /// Body `b + 1`.
@@ -126,28 +126,6 @@ fn pose_body(
     Ok(frame)
 }
 
-/// Whether two quaternions are the same, number by number.
-fn is_same(a: &Q4, b: &Q4) -> bool
-    ensures { IsTrue result → quaternion a.now ≡ quaternion b.now }
-{
-    a.w.mid == b.w.mid && a.x.mid == b.x.mid && a.y.mid == b.y.mid && a.z.mid == b.z.mid
-}
-
-/// The matrix of a quaternion. A frame has that of its own, and a body's inertial frame mostly has the
-/// body's orientation.
-fn matrix_beside(frame: &Frame, quat: &Q4) -> M3
-    requires { WithinQuaternion (quaternion quat.now) (2 ^ 32) }
-    ensures value { rotation.rows result ≡ rotation.matrix (quaternion quat.now) }
-    ensures sharp { rotation.IsUnit (quaternion quat.now)
-        → rotation.WithinRows (rotation.rows result) (2 ^ 32 + 16) }
-{
-    if is_same(quat, &frame.quat) {
-        frame.rows
-    } else {
-        matrix(quat)
-    }
-}
-
 /// The matrix of a body's inertial frame.
 #[tactic(auto, unfolding(crate::specs::Bodies::inertial_matrix))]
 fn inertial_matrix(frame: &Frame, body: &Body, index: usize) -> Result<M3, OutOfRange>
@@ -181,7 +159,7 @@ fn judge_arm(r: &V3<Plain, 32>, index: usize) -> Result<(), OutOfRange>
 }
 
 /// What a body in its place has besides its pose.
-#[derive(Debug, Drop)]
+#[derive(Drop)]
 struct Standing {
     com: V3<Plain, 32>,
     inertia: Inertia10,

@@ -7,7 +7,7 @@ use fx_num::Plain;
 use fx_vec::{M3, Q4, V3};
 
 /// A position and an orientation: its quaternion, and the matrix of that, which is formed once.
-#[derive(Debug, Drop)]
+#[derive(Drop)]
 pub(crate) struct Frame {
     pub(crate) pos: V3<Plain, 32>,
     pub(crate) quat: Q4,

@@ -11,10 +11,11 @@ ghost use Rattle.mj_types.specs.Placed.{vector_at, quaternion_at};
 ghost use Rattle.mj_kin.specs.Working.{pose_of, listed_pose, AreNear};
 
 use crate::frame::Frame;
+use crate::skipping::{composed, matrix_beside, rotated};
 use fx_list::Array;
 use fx_num::{Fix, Number, Plain};
 use fx_vec::{Q4, V3, Vector3, minus, plus, stretch};
-use mj_quat::{compose, matrix, renorm, rotate_by};
+use mj_quat::{matrix, renorm, rotate_by};
 use mj_types::{Joint, OutOfRange, Quantity};
 
 /// The least length of a composed quaternion that is made a unit again: 1/2.
@@ -42,6 +43,19 @@ pub(crate) fn framed(pos: &V3<Plain, 32>, quat: &Q4) -> Frame
         pos: *pos,
         quat: *quat,
         rows: matrix(quat),
+    }
+}
+
+/// That frame, beside another that mostly has the same orientation.
+fn framed_beside(frame: &Frame, pos: &V3<Plain, 32>, quat: &Q4) -> Frame
+    requires { WithinQuaternion (quaternion quat.now) (2 ^ 32) }
+    ensures { pose_of result
+        ≡ record { position = mids pos.now; orientation = quaternion quat.now } }
+{
+    Frame {
+        pos: *pos,
+        quat: *quat,
+        rows: matrix_beside(frame, quat),
     }
 }
 
@@ -80,7 +94,7 @@ pub(crate) fn follow(a: &Q4, b: &Q4, what: Quantity, index: usize) -> Result<Q4,
     ensures first { refusal_of result
         ≡ spec.norm_fault what index (quaternion a.now) (quaternion b.now) }
 {
-    match renorm(&compose(a, b), LEAST_LENGTH, MOST_LENGTH) {
+    match renorm(&composed(a, b), LEAST_LENGTH, MOST_LENGTH) {
         Ok(r) => Ok(r),
         Err(_) => Err(OutOfRange { kind: what, index }),
     }
@@ -97,7 +111,7 @@ pub(crate) fn carried(frame: &Frame, x: &V3<Plain, 32>) -> V3<Plain, 32>
     ensures linear { (limit : ℕ) → Within (mids frame.now.pos) limit
         → IsUnit (quaternion frame.now.quat) → Within (mids result) (limit + 2 ^ 44) }
 {
-    plus(&frame.pos, &rotate_by(&frame.rows, x))
+    plus(&frame.pos, &rotated(&frame.rows, x))
 }
 
 /// A direction of a frame, in the world.
@@ -143,7 +157,7 @@ pub(crate) fn hung(joint: &Joint, at: &V3<Plain, 32>, quat: &Q4) -> Frame
 {
     let rows = matrix(quat);
     Frame {
-        pos: minus(at, &rotate_by(&rows, &joint.pos)),
+        pos: minus(at, &rotated(&rows, &joint.pos)),
         quat: *quat,
         rows,
     }
@@ -183,5 +197,5 @@ pub(crate) fn attach(
         (quaternion frame.now.quat) (quaternion quat.now) }
 {
     let turn = follow(&frame.quat, quat, what, index)?;
-    Ok(framed(&carried(frame, pos), &turn))
+    Ok(framed_beside(frame, &carried(frame, pos), &turn))
 }

@@ -9,7 +9,6 @@ mod inertias;
 mod joints;
 mod leaves;
 mod placing;
-#[cfg(test)]
-mod tests;
+mod skipping;
 
 pub use placing::frames;

@@ -72,9 +72,6 @@ listed-at n f k d l =
     let first : before (λ k. f k ∷ []) k + 0 ≡ k = omega (arith, sum_ℕ_to-const k 1) in
     ap (λ (m : ℕ). get_or (listed n f) m d) (sym first) ∙ joined-at n (λ k. f k ∷ []) k 0 d l (omega arith)
 
-pub listed-none : {A : Type 0} → (f : ℕ → A) → [] ≡ listed 0 f
-listed-none f = sym (joined-none (λ k. f k ∷ []))
-
 pub listed-more : {A : Type 0} → (xs : List A) (x : A) (n : ℕ) (f : ℕ → A) → xs ≡ listed n f → x ≡ f n → xs ++ x ∷ [] ≡ listed (n + 1) f
 listed-more xs x n f e h = ap (λ ys. ys ++ x ∷ []) e ∙ ap (λ y. listed n f ++ y ∷ []) h ∙ sym (joined-more n (λ k. f k ∷ []))
 

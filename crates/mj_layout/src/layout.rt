@@ -13,7 +13,7 @@ use std::alloc::{AllocError, Global};
 
 /// A body with its joints and its geoms, which name it as theirs. Its root and the places of its joints
 /// and dofs aren't known yet, nor are those of its joints' positions and velocities.
-#[derive(Debug, Drop)]
+#[derive(Drop)]
 pub struct BodyParts {
     pub body: Body,
     pub joints: Array<Joint>,
@@ -21,7 +21,7 @@ pub struct BodyParts {
 }
 
 /// A model's lists of bodies, joints, dofs and geoms, and how many positions and velocities it has.
-#[derive(Debug, Drop)]
+#[derive(Drop)]
 pub struct Layout {
     pub bodies: Array<Body>,
     pub joints: Array<Joint>,

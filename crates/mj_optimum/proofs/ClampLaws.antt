@@ -1,7 +1,6 @@
 -- The laws of the clamp, by bounds of which either may be missing.
 use Rattle.std.proofs.Common.{◌≡◌, ℤ, pos, ◌+ℤ◌, ◌-ℤ◌, ◌*ℤ◌, ◌<ℤ◌, ◌≤ℤ◌, ◌⊎◌, Bool, true, false, cond, Option, Some, None, refl, arith, inl, inr}
 use Rattle.std.specs.Prelude.{int_lt}
-use Rattle.std.specs.Int.{int_max}
 use Rattle.std.proofs.lemmas.Int.{ints}
 use Rattle.mj_optimum.specs.Feasible.{IsAbove, IsBelow}
 use Rattle.mj_optimum.specs.Sweep.{at_least, at_most, clamp, LiesBetween}
@@ -110,20 +109,6 @@ at_least_low low x h = pick (int_lt x low) refl
     pick true e = refl
     pick false e = let l : low ≤ℤ x = int_lt_false x low e in omega (arith, ints)
 
-pub at_least_past : (low x : ℤ) → low ≤ℤ x → at_least (Some low) x ≡ x
-at_least_past low x h = pick (int_lt x low) refl
-  where
-    pick : (b : Bool) → int_lt x low ≡ b → cond b low x ≡ x
-    pick true e = let l : x <ℤ low = int_lt_true x low e in omega (arith, ints)
-    pick false e = refl
-
-pub at_most_high : (high x : ℤ) → high ≤ℤ x → at_most (Some high) x ≡ high
-at_most_high high x h = pick (int_lt high x) refl
-  where
-    pick : (b : Bool) → int_lt high x ≡ b → cond b high x ≡ high
-    pick true e = refl
-    pick false e = let l : x ≤ℤ high = int_lt_false high x e in omega (arith, ints)
-
 pub at_most_below_high : (high x : ℤ) → x ≤ℤ high → at_most (Some high) x ≡ x
 at_most_below_high high x h = pick (int_lt high x) refl
   where
@@ -135,9 +120,6 @@ at_most_below_high high x h = pick (int_lt high x) refl
 pub at_most_rests : (high : Option ℤ) (x : ℤ) → IsBelow high x (pos 1) → at_most high x ≡ x
 at_most_rests None x h = refl
 at_most_rests (Some high) x h = at_most_below_high high x (below_one high x h)
-
-pub clamp_from_zero : (x : ℤ) → clamp (Some (pos 0)) None x ≡ int_max (pos 0) x
-clamp_from_zero x = refl
 
 -- ---- a bound of n / d, raised to the low bound or lowered to the high one
 pub at_least_keeps : (low : Option ℤ) (x n d : ℤ) → IsAbove low n d → (d *ℤ x) ≤ℤ n → (d *ℤ at_least low x) ≤ℤ n

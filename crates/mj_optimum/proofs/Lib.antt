@@ -31,9 +31,8 @@
 --   box_holds *, optimum_is_only *
 --
 -- ClampLaws, of `at_least`, `at_most` and `clamp` (specs/Sweep)
---   at_least_low, _past, at_most_high, _below_high, at_most_rests      at a bound, and past it
+--   at_least_low, at_most_below_high, at_most_rests      at a bound, and past it
 --   clamp_above, clamp_below   the clamped number is within the bounds;  clamp_between: so is the step to it
---   clamp_from_zero            with the low bound 0 and no high one it is max 0
 --   at_least_keeps, at_most_keeps      bounds of n / d
 --
 -- SweepLaws (specs/Sweep)
@@ -44,13 +43,13 @@
 --   update_is_feasible, update_never_rises      one row
 --   pass_more, pass_stays, pass_is_feasible, pass_never_rises, pass_cost      the rows below n
 --   iterate_next, iterate_more, iterate_past, iterate_is_feasible *
---   sweep_lowers_cost *, drop_is_nonneg, iterate_costs_no_more, iterate_costs_at_most_zero *, drop_over_rows *
+--   sweep_lowers_cost *, iterate_costs_no_more, iterate_costs_at_most_zero *, drop_over_rows *
 --
 -- StopLaws (specs/Stop)
 --   stop_without_rows *, stop_at_tolerance *, stop_at_limit *
 --
 -- LimitLaws (specs/Limits)
---   cost_at_least, cost_size   the cost, by the sums that have a limit
+--   cost_at_least              the cost, by the sums that have a limit
 --
 -- Examples: the definitions at worked examples.
 -- Combining and Tests: sums of combinations, a term below its sum, tests of ℤ.

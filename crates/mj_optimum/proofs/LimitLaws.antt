@@ -1,12 +1,12 @@
 -- How large a cost can be, by the sums that are limited.
-use Rattle.std.proofs.Common.{◌≡◌, ℕ, ◌+◌, ◌^◌, ◌<◌, ◌≤◌, ℤ, pos, ◌+ℤ◌, ◌*ℤ◌, neg_ℤ, ◌<ℤ◌, ◌≤ℤ◌, unsigned_abs, arith}
+use Rattle.std.proofs.Common.{◌≡◌, ℕ, ◌^◌, ◌<◌, ◌≤◌, ℤ, pos, ◌+ℤ◌, ◌*ℤ◌, neg_ℤ, ◌<ℤ◌, ◌≤ℤ◌, unsigned_abs, arith}
 use Rattle.std.proofs.lemmas.Int.{ints}
-use Rattle.fx_whole.specs.Sums.{sum_to, sum_ℕ_to}
+use Rattle.fx_whole.specs.Sums.{sum_to}
 use Rattle.fx_whole.proofs.Ring.{mul_nonneg, square_nonneg}
 use Rattle.fx_whole.proofs.SumLaws.{sum_to-nonneg, sum_to-scale_left, sum_to-size}
 use Rattle.mj_optimum.specs.Problem.{Problem, IsRegular}
 use Rattle.mj_optimum.specs.Cost.{reach, cost}
-use Rattle.mj_optimum.specs.Limits.{weight_to, pull_to}
+use Rattle.mj_optimum.specs.Limits.{pull_to}
 
 pull_size : (p : Problem) (f : ℕ → ℤ) → unsigned_abs (pos (2 ^ 37) *ℤ (pos 1 *ℤ sum_to p.m (λ i. p.b i *ℤ f i))) ≤ pull_to p f p.m
 pull_size p f = rw (one (sum_to p.m (λ i. p.b i *ℤ f i)), ← sum_to-scale_left p.m (pos (2 ^ 37)) (λ i. p.b i *ℤ f i)) (sum_to-size p.m (λ i. pos (2 ^ 37) *ℤ (p.b i *ℤ f i)))
@@ -27,13 +27,3 @@ cost_at_least p f regular =
 
     low : (x y z : ℤ) (n : ℕ) → pos 0 ≤ℤ x → pos 0 ≤ℤ y → unsigned_abs z ≤ n → neg_ℤ (pos n) ≤ℤ (x +ℤ y +ℤ z)
     low x y z n h k l = omega (arith, ints)
-
-pub cost_size : (p : Problem) (f : ℕ → ℤ) → unsigned_abs (cost p f (pos 1)) ≤ sum_ℕ_to p.nv (λ k. unsigned_abs (reach p f k *ℤ reach p f k)) + weight_to p f p.m + pull_to p f p.m
-unfolding cost
-cost_size p f =
-    added (sum_to p.nv (λ k. reach p f k *ℤ reach p f k)) (sum_to p.m (λ i. p.r i *ℤ (f i *ℤ f i))) (pos (2 ^ 37) *ℤ (pos 1 *ℤ sum_to p.m (λ i. p.b i *ℤ f i)))
-    (sum_ℕ_to p.nv (λ k. unsigned_abs (reach p f k *ℤ reach p f k))) (weight_to p f p.m) (pull_to p f p.m)
-    (sum_to-size p.nv (λ k. reach p f k *ℤ reach p f k)) (sum_to-size p.m (λ i. p.r i *ℤ (f i *ℤ f i))) (pull_size p f)
-  where
-    added : (x y z : ℤ) (a b c : ℕ) → unsigned_abs x ≤ a → unsigned_abs y ≤ b → unsigned_abs z ≤ c → unsigned_abs (x +ℤ y +ℤ z) ≤ a + b + c
-    added x y z a b c h k l = omega (arith, ints)

@@ -26,9 +26,6 @@ past_ring g r k v d = simp ring (omega (arith, ints))
 pub parabola_turned : (g r s d : ℤ) → parabola (neg_ℤ g) r (neg_ℤ s) d ≡ parabola g r s d
 parabola_turned g r s d = simp ring (omega (arith, ints))
 
-twice_nonneg : (x : ℤ) → pos 0 ≤ℤ x → pos 0 ≤ℤ (pos 2 *ℤ x)
-twice_nonneg x h = omega (arith, ints)
-
 -- ---- how far it falls
 -- where it meets a bound before its vertex: s is v past the bound
 at_bound : (a r t v d : ℤ) → pos 0 <ℤ r → pos 0 <ℤ d → (r *ℤ t) ≤ℤ a → pos 0 ≤ℤ v → pos 0 ≤ℤ (parabola a r (v -ℤ d *ℤ t) d +ℤ (d *ℤ d) *ℤ (t *ℤ (pos 2 *ℤ a -ℤ r *ℤ t)))

@@ -203,9 +203,6 @@ pub sweep_lowers_cost : (p : Problem) (s : ℕ) → HoldsZero p → cost p (iter
 sweep_lowers_cost p s h =
     subst (λ (f : ℕ → ℤ). cost p f (pos 1) ≤ℤ cost p (iterate p s) (pos 1)) (sym (iterate_next p s)) (pass_never_rises p (iterate p s) p.m (omega arith) (iterate_is_feasible p s h))
 
-pub drop_is_nonneg : (p : Problem) (s : ℕ) → HoldsZero p → pos 0 ≤ℤ drop_of p s
-drop_is_nonneg p s h = let l : cost p (iterate p (suc s)) (pos 1) ≤ℤ cost p (iterate p s) (pos 1) = sweep_lowers_cost p s h in omega (arith, ints)
-
 -- the first iterate costs nothing, so no other costs more
 pub iterate_costs_at_most_zero : (p : Problem) (s : ℕ) → HoldsZero p → cost p (iterate p s) (pos 1) ≤ℤ pos 0
 unfolding iterate

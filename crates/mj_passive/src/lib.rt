@@ -6,7 +6,5 @@ mod joints;
 mod motors;
 mod numbers;
 mod tendons;
-#[cfg(test)]
-mod tests;
 
 pub use dofs::applied;

@@ -20,7 +20,7 @@ use fx_num::{Fix, Wide};
 use mj_types::{Applied, Model, OutOfRange, Quantity, State, Tendon, Term};
 
 // A tendon's length and its rate as exact sums.
-#[derive(Clone, Copy, Debug)]
+#[derive(Clone, Copy)]
 struct Extent {
     length: Wide<64>,
     rate: Wide<64>,
@@ -102,7 +102,7 @@ pub(crate) fn tension(
 }
 
 // A tendon's length and its rate.
-#[derive(Clone, Copy, Debug)]
+#[derive(Clone, Copy)]
 struct Measured {
     length: Fix<32>,
     rate: Fix<32>,

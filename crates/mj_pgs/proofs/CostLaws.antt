@@ -74,6 +74,3 @@ pull-test s k e = grind (arith, nat_tests)
 
 pub within-pull : (n : ℕ) → nat_le n (2 ^ 87) ≡ true → n ≤ 2 ^ 87
 within-pull n e = grind (arith, nat_tests)
-
-pub judged-none : (d : Dual) (x : Forces) → JudgedSoFar d x 0 0 0
-judged-none d x = record { sums = record { weight = refl; weight_small = omega arith; pull = refl; pull_small = omega arith }; passed = refl }

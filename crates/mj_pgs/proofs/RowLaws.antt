@@ -119,6 +119,7 @@ pub put-held : (d : Dual) (x y : Forces) (i n : ℕ) (row : List (Number (Unit {
     → IsPut x.f y.f i v → unsigned_abs v.mid ≤ 2 ^ 50 → length y.u ≡ length x.u → IsShifted row x.u y.u step n → y.divisor ≡ x.divisor → y.used ≡ x.used → IsHeld d y
 put-held d x y i n row v step s put small len shifted same_divisor same_used =
     record {
+      solvable = s.held.solvable;
       places = record { f = omega (arith, s.held.places.f, put.len); u = omega (arith, s.held.places.u, len); divisor = subst (λ a. d.m ≤ length a) (sym same_divisor) s.held.places.divisor; used = subst (λ a. d.m ≤ length a) (sym same_used) s.held.places.used };
       ready = λ j h. let r = s.held.ready j h in record {
         divisor = λ e. ap (λ a. (get_or a j e).d) same_divisor ∙ r.divisor e;

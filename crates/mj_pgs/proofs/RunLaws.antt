@@ -20,7 +20,7 @@ use Rattle.mj_optimum.proofs.Tests.{int_le_true, int_le_from}
 use Rattle.mj_types.specs.declared.dual.Dual.{Dual}
 use Rattle.mj_types.specs.declared.dual.Forces.{Forces}
 use Rattle.mj_types.specs.declared.range.OutOfRange.{OutOfRange}
-use Rattle.mj_types.specs.Problems.{problem, forces, place}
+use Rattle.mj_types.specs.Problems.{IsSolvable, problem, forces, place}
 use Rattle.mj_types.specs.Solved.{IsSolved}
 use Rattle.mj_pgs.specs.Answer.{sweep_fault, refused, stopped, ending, or_end, answer}
 use Rattle.mj_pgs.specs.Holding.{HaveSamePlaces, IsHeld}
@@ -52,7 +52,7 @@ zero-iterate p = refl
 pub solved-none : (d : Dual) (y : Forces) → IsHeld d y → forces y ≡ (λ _. pos 0) → IsSolved d y
 solved-none d y held none =
     record {
-      feasible = subst (λ (f : ℕ → ℤ). IsFeasible (problem d) f (pos 1)) (sym none) (holds_zero d);
+      feasible = subst (λ (f : ℕ → ℤ). IsFeasible (problem d) f (pos 1)) (sym none) (holds_zero d held.solvable);
       reached = held.reached;
       small = held.small;
       near = held.near;
@@ -186,5 +186,5 @@ pub if_ok_map : {A E : Type 0} → (r : Result A E) (P Q : A → Type 0) → ((x
 if_ok_map (Ok x) P Q h p = h x p
 if_ok_map (Err e) P Q h p = tt
 
-pub costs-nothing : (d : Dual) (f : ℕ → ℤ) (n : ℕ) → f ≡ iterate (problem d) n → cost (problem d) f (pos 1) ≤ℤ pos 0
-costs-nothing d f n e = subst (λ (g : ℕ → ℤ). cost (problem d) g (pos 1) ≤ℤ pos 0) (sym e) (iterate_costs_at_most_zero (problem d) n (holds_zero d))
+pub costs-nothing : (d : Dual) (f : ℕ → ℤ) (n : ℕ) → IsSolvable d → f ≡ iterate (problem d) n → cost (problem d) f (pos 1) ≤ℤ pos 0
+costs-nothing d f n solvable e = subst (λ (g : ℕ → ℤ). cost (problem d) g (pos 1) ≤ℤ pos 0) (sym e) (iterate_costs_at_most_zero (problem d) n (holds_zero d solvable))

@@ -16,9 +16,6 @@ pub record ShiftedSoFar {F G : ℕ} (row : List (Number (Unit {0}) F)) (old new 
   pub shifted : IsShifted row old new step n
   pub passed : first_to n (shift_fault row old step) ≡ None
 
-pub shifted-none : {F G : ℕ} (row : List (Number (Unit {0}) F)) (u : List (Number (Unit {0}) G)) (step : ℤ) → ShiftedSoFar row u u step 0
-shifted-none row u step = record { len = refl; shifted = record { here = λ k h. absurd (omega arith); past = λ k h. refl; near = λ k h. absurd (omega arith) }; passed = refl }
-
 pub shifted-more : {F G : ℕ} (row : List (Number (Unit {0}) F)) (old mid new : List (Number (Unit {0}) G)) (step : ℤ) (n : ℕ) (x : Number (Unit {0}) G)
     → ShiftedSoFar row old mid step n → length new ≡ length mid → get_or new n (plain (pos 0)) ≡ x → ((d : Number (Unit {0}) G) (j : ℕ) → j ≢ n → get_or new j d ≡ get_or mid j d)
     → x.mid ≡ moved row old step n → unsigned_abs x.mid ≤ 2 ^ 59 → None ≡ shift_fault row old step n → ShiftedSoFar row old new step (n + 1)

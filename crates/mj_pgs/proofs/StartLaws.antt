@@ -11,7 +11,7 @@ use Rattle.mj_types.specs.declared.dual.Dual.{Dual}
 use Rattle.mj_types.specs.declared.dual.Forces.{Forces}
 use Rattle.mj_types.specs.Duals.{entry_at}
 use Rattle.mj_types.specs.Parts.{number_at}
-use Rattle.mj_types.specs.Problems.{problem, forces}
+use Rattle.mj_types.specs.Problems.{IsSolvable, problem, forces}
 use Rattle.mj_pgs.specs.Holding.{HasPlaces, HaveSamePlaces, IsReady, IsHeld}
 use Rattle.mj_pgs.proofs.RowLaws.{IsPut}
 
@@ -40,9 +40,10 @@ ready-more d x y i n by row h put_by put_used value width numbers within zero be
 pub zero-forces : (f : List (Number (Unit {0}) 20)) → ((i : ℕ) → number_at f i ≡ pos 0) → number_at f ≡ (λ _. pos 0)
 zero-forces f zero = fun_ext zero
 
-pub started : (d : Dual) (x y : Forces) → HasPlaces d x → HaveSamePlaces x y → ((i : ℕ) → number_at y.f i ≡ pos 0) → ((k : ℕ) → number_at y.u k ≡ pos 0) → ((j : ℕ) → j < d.m → IsReady d y j) → IsHeld d y
-started d x y places same f_zero u_zero ready =
+pub started : (d : Dual) (x y : Forces) → IsSolvable d → HasPlaces d x → HaveSamePlaces x y → ((i : ℕ) → number_at y.f i ≡ pos 0) → ((k : ℕ) → number_at y.u k ≡ pos 0) → ((j : ℕ) → j < d.m → IsReady d y j) → IsHeld d y
+started d x y solvable places same f_zero u_zero ready =
     record {
+      solvable = solvable;
       places = record { f = omega (arith, places.f, same.f); u = omega (arith, places.u, same.u); divisor = omega (arith, places.divisor, same.divisor); used = omega (arith, places.used, same.used) };
       ready = ready;
       reached = λ k h. u_zero k ∙ sym (ap (λ (f : ℕ → ℤ). reach (problem d) f k) (zero-forces y.f f_zero) ∙ reach_of_zero (problem d) k);

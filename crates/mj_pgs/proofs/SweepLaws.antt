@@ -16,8 +16,9 @@ use Rattle.mj_optimum.proofs.LimitLaws.{cost_at_least}
 use Rattle.mj_optimum.proofs.SweepLaws as law
 use Rattle.mj_types.specs.declared.dual.Dual.{Dual}
 use Rattle.mj_types.specs.declared.dual.Forces.{Forces}
-use Rattle.mj_types.specs.Problems.{problem, forces, place}
+use Rattle.mj_types.specs.Problems.{IsSolvable, problem, forces, place}
 use Rattle.mj_types.specs.Solved.{IsSolved}
+use Rattle.mj_types.proofs.DualLaws.{regular}
 use Rattle.mj_pgs.specs.Answer.{row_fault}
 use Rattle.mj_pgs.proofs.BoundLaws.{zero_above, zero_below}
 use Rattle.mj_pgs.specs.Holding.{HaveSamePlaces, IsHeld, change_at}
@@ -53,15 +54,12 @@ swept-more d x y z t c s n so places held moved none change sum =
           ∙ ap (int_wrap w128) (sym (sum_to-more n (row_change p (forces x))));
     }
 
--- ---- what every dual gives
-pub is_regular : (d : Dual) → IsRegular (problem d)
-is_regular d i h = let r : pos 1 ≤ℤ (problem d).r i = d.rows.regular i h in omega (arith, ints)
-
-pub holds_zero : (d : Dual) → HoldsZero (problem d)
-holds_zero d =
+-- ---- and each that a solver takes
+pub holds_zero : (d : Dual) → IsSolvable d → HoldsZero (problem d)
+holds_zero d solvable =
     record {
-      above = λ i h. zero_above ((problem d).low i) (d.rows.low_bound i h);
-      below = λ i h. zero_below ((problem d).high i) (d.rows.high_bound i h);
+      above = λ i h. zero_above ((problem d).low i) (solvable.each i h).low_bound;
+      below = λ i h. zero_below ((problem d).high i) (solvable.each i h).high_bound;
     }
 
 -- ---- what the cost falls by in a sweep
@@ -72,7 +70,7 @@ fall d x y t s feasible low swept pull total turned =
     let p = problem d in
     let grown : cost p (forces y) (pos 1) ≡ cost p (forces x) (pos 1) +ℤ sum_to d.m (row_change p (forces x)) = ap (λ (f : ℕ → ℤ). cost p f (pos 1)) swept ∙ law.pass_cost p (forces x) d.m (omega arith) in
     let falls : cost p (forces y) (pos 1) ≤ℤ cost p (forces x) (pos 1) = subst (λ (f : ℕ → ℤ). cost p f (pos 1) ≤ℤ cost p (forces x) (pos 1)) (sym swept) (law.pass_never_rises p (forces x) d.m (omega arith) feasible) in
-    let least : neg_ℤ (pos (pull_to p (forces y) d.m)) ≤ℤ cost p (forces y) (pos 1) = cost_at_least p (forces y) (is_regular d) in
+    let least : neg_ℤ (pos (pull_to p (forces y) d.m)) ≤ℤ cost p (forces y) (pos 1) = cost_at_least p (forces y) (regular d) in
     turned ∙ unwrapped (cost p (forces x) (pos 1)) (cost p (forces y) (pos 1)) (sum_to d.m (row_change p (forces x))) t (pull_to p (forces y) d.m) grown falls low least pull total
   where
     unwrapped : (a b c t : ℤ) (k : ℕ) → b ≡ a +ℤ c → b ≤ℤ a → a ≤ℤ pos 0 → neg_ℤ (pos k) ≤ℤ b → k ≤ 2 ^ 124 → t ≡ int_wrap w128 c → int_wrap w128 (neg_ℤ t) ≡ a -ℤ b

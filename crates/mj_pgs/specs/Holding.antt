@@ -12,7 +12,7 @@ use Rattle.mj_types.specs.Ranges.{limited}
 use Rattle.mj_types.specs.declared.dual.Dual.{Dual}
 use Rattle.mj_types.specs.declared.dual.Forces.{Forces}
 use Rattle.mj_types.specs.Parts.{number_at}
-use Rattle.mj_types.specs.Problems.{problem, forces}
+use Rattle.mj_types.specs.Problems.{IsSolvable, problem, forces}
 
 -- forces with room for a dual's rows and dofs
 pub record HasPlaces (d : Dual) (x : Forces) : Type 0 where
@@ -34,8 +34,9 @@ pub record IsReady (d : Dual) (x : Forces) (i : ℕ) : Type 0 where
   pub used_room : slice_index_or x.used i 0 ≤ d.nv
   pub unused : (k : ℕ) → slice_index_or x.used i 0 ≤ k → k < d.nv → (problem d).g i k ≡ pos 0
 
--- between two rows: all is prepared, u = G^T f, and the forces and u are within their limits
+-- between two rows: the dual is one that a solver takes, all is prepared, u = G^T f, and the forces and u are within their limits
 pub record IsHeld (d : Dual) (x : Forces) : Type 0 where
+  pub solvable : IsSolvable d
   pub places : HasPlaces d x
   pub ready : (i : ℕ) → i < d.m → IsReady d x i
   pub reached : (k : ℕ) → k < d.nv → number_at x.u k ≡ reach (problem d) (forces x) k

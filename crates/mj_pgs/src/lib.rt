@@ -7,8 +7,6 @@ mod shift;
 mod solver;
 mod start;
 mod sweep;
-#[cfg(test)]
-mod tests;
 
 pub use mj_types::Stop;
 pub use solver::solve;

@@ -4,7 +4,7 @@ ghost use Rattle.mj_optimum.specs.Cost.{cost};
 ghost use Rattle.mj_optimum.specs.Stop.{stop_of, sweeps_of};
 ghost use Rattle.mj_optimum.specs.Sweep.{iterate};
 ghost use Rattle.mj_types.specs.Problems as problems;
-ghost use Rattle.mj_types.specs.Problems.{problem, forces};
+ghost use Rattle.mj_types.specs.Problems.{IsSolvable, problem, forces};
 ghost use Rattle.mj_types.specs.Solved.{IsSolved};
 ghost use Rattle.mj_pgs.specs.Answer as spec;
 ghost use Rattle.mj_pgs.specs.Holding.{HasPlaces, HaveSamePlaces};
@@ -29,6 +29,7 @@ fn run(
     tolerance: Fix<32>,
     out: &mut Forces,
 ) -> Result<Stop, OutOfRange>
+    requires solvable { IsSolvable dual.now }
     requires places { HasPlaces dual.now out.old }
     ensures places { HaveSamePlaces out.old out.new }
     ensures answer { result
@@ -61,6 +62,7 @@ pub fn solve(
     tolerance: Fix<32>,
     out: &mut Forces,
 ) -> Result<Stop, OutOfRange>
+    requires solvable { IsSolvable dual.now }
     requires places { HasPlaces dual.now out.old }
     requires iterations { 1 ≤ iterations }
     requires tolerance { pos 0 ≤ℤ tolerance.mid }

@@ -2,7 +2,7 @@
 ghost use Rattle.std.specs.Prelude.{◌≡◌, ℕ, ◌<◌, ◌≤◌, pos, length};
 ghost use Rattle.mj_optimum.specs.Sweep as rule;
 ghost use Rattle.mj_types.specs.Parts.{number_at};
-ghost use Rattle.mj_types.specs.Problems.{problem, forces};
+ghost use Rattle.mj_types.specs.Problems.{IsSolvable, problem, forces};
 ghost use Rattle.mj_pgs.specs.Holding.{HasPlaces, HaveSamePlaces, IsHeld};
 
 use fx_list::Array;
@@ -22,7 +22,8 @@ fn clear<const F: u32>(list: &mut Array<Fix<F>>)
 
 // What the gradient of row i is divided by.
 fn divisor(dual: &Dual, i: usize) -> Divisor
-    requires { i < dual.now.m }
+    requires row { i < dual.now.m }
+    requires solvable { IsSolvable dual.now }
     ensures { result.d ≡ rule.divisor (problem dual.now) i }
 {
     Divisor::new(sum(dual.diag.at(i).raw, dual.r.at(i).raw))
@@ -44,7 +45,8 @@ fn used(row: &[Fix<24>]) -> usize
 
 /// Writes forces of 0, and what is kept of each row.
 pub(crate) fn start(dual: &Dual, out: &mut Forces)
-    requires { HasPlaces dual.now out.old }
+    requires solvable { IsSolvable dual.now }
+    requires places { HasPlaces dual.now out.old }
     ensures places { HaveSamePlaces out.old out.new }
     ensures held { IsHeld dual.now out.new }
     ensures forces { forces out.new ≡ (λ _. pos 0) }

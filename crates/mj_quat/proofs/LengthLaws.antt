@@ -5,16 +5,11 @@ use Rattle.fx_whole.specs.Nearest.{IsNearest}
 use Rattle.fx_whole.specs.Roots.{isqrt, IsRoot}
 use Rattle.fx_whole.proofs.Ring.{ring, square_nonneg, squares_apart, abs_turned, abs_between, abs_square, abs_mono, abs_nonneg, le_of_mul}
 use Rattle.fx_whole.proofs.RootLaws.{isqrt-root, isqrt-square, isqrt-mono, isqrt-nonneg, isqrt-below}
-use Rattle.fx_whole.proofs.NearestLaws.{nearest-within, nearest-is_nearest}
+use Rattle.fx_whole.proofs.NearestLaws.{nearest-is_nearest}
 use Rattle.fx_vec.specs.Vectors.{Triple, dot}
 use Rattle.fx_vec.specs.Sizes.{Within}
 use Rattle.fx_vec.proofs.Bounds.{dot-size, dot_size-le}
 use Rattle.mj_quat.specs.Rotation.{Quaternion, WithinQuaternion, square_sum, quaternion_length, vector_length, over, quaternion_over, unit_quaternion, IsUnit}
-
--- ---- what is divided by a length
-pub over-le : (n length : ℤ) → unsigned_abs n ≤ unsigned_abs length → unsigned_abs (over n length) ≤ 2 ^ 32
-over-le n length h =
-    nearest-within (n *ℤ pos (2 ^ 32)) length (2 ^ 32) (omega (arith, unsigned_abs-mul n (pos (2 ^ 32))))
 
 -- ---- a root of a sum of squares
 root_covers : (n total : ℤ) → (n *ℤ n) ≤ℤ total → unsigned_abs n ≤ unsigned_abs (isqrt total)
@@ -31,9 +26,6 @@ root_covers n total h =
 pub square_sum-nonneg : (q : Quaternion) → pos 0 ≤ℤ square_sum q
 square_sum-nonneg q =
     omega (arith, ints, square_nonneg q.w, square_nonneg q.x, square_nonneg q.y, square_nonneg q.z)
-
-pub dot-nonneg : (v : Triple ℤ) → pos 0 ≤ℤ dot v v
-dot-nonneg v = omega (arith, ints, square_nonneg v.x, square_nonneg v.y, square_nonneg v.z)
 
 pub quaternion_covered : (q : Quaternion) → WithinQuaternion q (unsigned_abs (quaternion_length q))
 unfolding quaternion_length

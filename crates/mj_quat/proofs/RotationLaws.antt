@@ -18,12 +18,6 @@ round_product-le a b h =
     let p : unsigned_abs a * unsigned_abs b ≤ unsigned_abs a * 2 ^ 32 = mul-le-mul {n₁ = unsigned_abs a} {n₂ = unsigned_abs a} (omega arith) h in
     round-le (a *ℤ b) (unsigned_abs a) (rw unsigned_abs-mul p)
 
-pub round_sum-le : (a b : ℤ) → unsigned_abs a ≤ 2 ^ 66 → unsigned_abs b ≤ 2 ^ 66 → unsigned_abs (round (a +ℤ b)) ≤ 2 ^ 35
-round_sum-le a b h k = round-le (a +ℤ b) (2 ^ 35) (omega (arith, ints))
-
-pub round_difference-le : (a b : ℤ) → unsigned_abs a ≤ 2 ^ 66 → unsigned_abs b ≤ 2 ^ 66 → unsigned_abs (round (a -ℤ b)) ≤ 2 ^ 35
-round_difference-le a b h k = round-le (a -ℤ b) (2 ^ 35) (omega (arith, ints))
-
 -- a row that is at most 1 and 16 units
 pub along-sharp : (row v : Triple ℤ) (limit : ℕ) → Within row (2 ^ 32 + 16) → Within v limit → unsigned_abs (along row v) ≤ 4 * limit
 along-sharp row v limit h k =

@@ -47,14 +47,6 @@ cosine_halving : (z : ℤ) → unsigned_abs z ≤ 2 ^ 60 → Halving (cosine_ter
 unfolding cosine_term
 cosine_halving z h = record { half = λ n. next_term-half (cosine_term z n) z ((2 * n + 1) * (2 * n + 2)) (omega arith) h }
 
-pub sine_term-size : (t z : ℤ) (n : ℕ) → unsigned_abs z ≤ 2 ^ 60 → unsigned_abs (sine_term t z n) ≤ unsigned_abs t
-unfolding sine_term
-sine_term-size t z n h = halving-term (sine_term t z) (sine_halving t z h) n
-
-pub cosine_term-size : (z : ℤ) (n : ℕ) → unsigned_abs z ≤ 2 ^ 60 → unsigned_abs (cosine_term z n) ≤ 2 ^ 60
-unfolding cosine_term
-cosine_term-size z n h = halving-term (cosine_term z) (cosine_halving z h) n
-
 -- ---- sizes of sums
 -- the cosine's second term is at most 0, and the later ones together are at most as large
 sum_of_two : (f : ℕ → ℤ) (n : ℕ) → Halving f → f 1 ≤ℤ pos 0 → pos (2 ^ 60) ≡ f 0 → unsigned_abs (sum_to (suc (suc n)) f) ≤ 2 ^ 60

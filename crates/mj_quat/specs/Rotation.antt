@@ -3,7 +3,7 @@
 use Rattle.std.specs.Prelude.{◌^◌, ◌+◌, ◌≤◌, ℕ, ℤ, pos, ◌+ℤ◌, ◌-ℤ◌, ◌*ℤ◌, unsigned_abs, Bool, ◌&&◌, cond, int_le, int_lt, Option, Some, None}
 use Rattle.fx_whole.specs.Nearest.{nearest}
 use Rattle.fx_whole.specs.Roots.{isqrt}
-use Rattle.fx_num.specs.Settled.{settled_mid}
+pub use Rattle.fx_num.specs.Scalars.{round, over}
 use Rattle.fx_num.specs.declared.carry.Over.{Over}
 use Rattle.fx_num.specs.declared.carry.Over.TheVariants.{Value}
 use Rattle.fx_vec.specs.Vectors.{Triple, dot}
@@ -13,10 +13,6 @@ use Rattle.fx_vec.specs.Views.{mids}
 use Rattle.fx_vec.specs.declared.vector.M3.{M3}
 pub use Rattle.fx_vec.specs.Quaternions.{Quaternion, quaternion, WithinQuaternion}
 use Rattle.mj_quat.specs.Sine.{sine, cosine}
-
--- an exact sum of products at scale 64, rounded to scale 32
-abbrev pub round : ℤ → ℤ
-round n = settled_mid n 32
 
 -- the Hamilton product a b
 unfoldable pub product : Quaternion → Quaternion → Quaternion
@@ -85,10 +81,6 @@ vector_length v = isqrt (dot v v)
 -- the square of its length is 1, to within 2^-29 and one unit more
 pub record IsUnit (q : Quaternion) : Type 0 where
   pub near : unsigned_abs (square_sum q -ℤ pos (2 ^ 64)) ≤ 2 ^ 35 + 1
-
--- n over a length, at scale 32
-abbrev pub over : ℤ → ℤ → ℤ
-over n length = nearest (n *ℤ pos (2 ^ 32)) length
 
 abbrev pub quaternion_over : Quaternion → ℤ → Quaternion
 quaternion_over q length = record {

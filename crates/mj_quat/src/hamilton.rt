@@ -3,8 +3,8 @@ ghost use Rattle.std.specs.Prelude.{◌≡◌, ◌^◌, ◌≤◌, unsigned_abs}
 ghost use Rattle.fx_vec.specs.Quaternions.{quaternion, WithinQuaternion};
 ghost use Rattle.mj_quat.specs.Rotation as spec;
 
-use crate::products::{pair_difference, pair_sum, round_difference, round_sum};
-use fx_num::Fix;
+use crate::products::{pair_difference, pair_sum};
+use fx_num::{Fix, rounded_difference, rounded_sum};
 use fx_vec::Q4;
 
 /// The real part of `a b`.
@@ -16,7 +16,7 @@ fn real_part(a: &Q4, b: &Q4) -> Fix<32>
 {
     let first = pair_difference(&a.w, &b.w, &a.x, &b.x);
     let second = pair_sum(&a.y, &b.y, &a.z, &b.z);
-    round_difference(&first, &second)
+    rounded_difference(&first, &second)
 }
 
 /// The first imaginary part of `a b`.
@@ -28,7 +28,7 @@ fn x_part(a: &Q4, b: &Q4) -> Fix<32>
 {
     let first = pair_sum(&a.w, &b.x, &a.x, &b.w);
     let second = pair_difference(&a.y, &b.z, &a.z, &b.y);
-    round_sum(&first, &second)
+    rounded_sum(&first, &second)
 }
 
 /// The second imaginary part of `a b`.
@@ -40,7 +40,7 @@ fn y_part(a: &Q4, b: &Q4) -> Fix<32>
 {
     let first = pair_difference(&a.w, &b.y, &a.x, &b.z);
     let second = pair_sum(&a.y, &b.w, &a.z, &b.x);
-    round_sum(&first, &second)
+    rounded_sum(&first, &second)
 }
 
 /// The third imaginary part of `a b`.
@@ -52,7 +52,7 @@ fn z_part(a: &Q4, b: &Q4) -> Fix<32>
 {
     let first = pair_sum(&a.w, &b.z, &a.x, &b.y);
     let second = pair_difference(&a.z, &b.w, &a.y, &b.x);
-    round_sum(&first, &second)
+    rounded_sum(&first, &second)
 }
 
 /// The Hamilton product `a b`, the rotation `b` and then `a`, each number rounded once. It isn't

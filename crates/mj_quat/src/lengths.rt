@@ -8,9 +8,9 @@ ghost use Rattle.fx_vec.specs.Sizes.{Within};
 ghost use Rattle.fx_vec.specs.Views.{mids};
 ghost use Rattle.mj_quat.specs.Rotation as spec;
 
-use fx_num::{Fix, Over, Plain, none};
+use fx_num::{Fix, Over, Plain, none, ratio_near_one};
 use fx_vec::{Q4, V3, Vector3, dot_into};
-use fx_whole::{isqrt, narrow, nearest, product, scale_up, sum};
+use fx_whole::{guess_near_one, isqrt_from, narrow, product, sum};
 
 /// `n^2`.
 fn square(n: &Fix<32>) -> i128
@@ -40,7 +40,7 @@ fn root(n: &i128) -> Fix<32>
     requires size { unsigned_abs n.now < 2 ^ 124 }
     ensures { result.mid ≡ roots.isqrt n.now }
 {
-    Fix::from_raw(narrow(isqrt(*n)))
+    Fix::from_raw(narrow(isqrt_from(n, guess_near_one(n))))
 }
 
 /// A quaternion's length, rounded down. None of its numbers is larger.
@@ -80,16 +80,6 @@ pub fn vector_length(v: &V3<Plain, 32>) -> Fix<32>
     root(&vector_square(v))
 }
 
-/// `n / length` at scale 32, rounded.
-fn over(n: &Fix<32>, length: &Fix<32>) -> Fix<32>
-    requires positive { pos 0 <ℤ length.now.mid }
-    requires covers { unsigned_abs n.now.mid ≤ unsigned_abs length.now.mid }
-    ensures value { result.mid ≡ spec.over n.now.mid length.now.mid }
-    ensures size { unsigned_abs result.mid ≤ 2 ^ 32 }
-{
-    Fix::from_raw(narrow(nearest(scale_up(n.mid, 32), i128::from(length.mid))))
-}
-
 /// A quaternion over a length that none of its numbers passes, each number rounded once.
 fn quaternion_over(q: &Q4, length: &Fix<32>) -> Q4
     requires positive { pos 0 <ℤ length.now.mid }
@@ -98,10 +88,10 @@ fn quaternion_over(q: &Q4, length: &Fix<32>) -> Q4
     ensures size { WithinQuaternion (quaternion result) (2 ^ 32) }
 {
     Q4 {
-        w: over(&q.w, length),
-        x: over(&q.x, length),
-        y: over(&q.y, length),
-        z: over(&q.z, length),
+        w: ratio_near_one(&q.w, length),
+        x: ratio_near_one(&q.x, length),
+        y: ratio_near_one(&q.y, length),
+        z: ratio_near_one(&q.z, length),
     }
 }
 
@@ -113,9 +103,9 @@ pub fn vector_over(v: &V3<Plain, 32>, length: &Fix<32>) -> V3<Plain, 32>
     ensures size { Within (mids result) (2 ^ 32) }
 {
     Vector3 {
-        x: over(&v.x, length),
-        y: over(&v.y, length),
-        z: over(&v.z, length),
+        x: ratio_near_one(&v.x, length),
+        y: ratio_near_one(&v.y, length),
+        z: ratio_near_one(&v.z, length),
     }
 }
 

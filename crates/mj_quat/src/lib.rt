@@ -13,6 +13,3 @@ pub use lengths::{renorm, unit, vector_length, vector_over};
 pub use rotating::{matrix, rotate, rotate_by};
 pub use sine::{cosine_is_even, quarter_turn_on, sin_cos, sine_is_odd, sines_are_small};
 pub use turning::{advance, axis_angle};
-
-#[cfg(test)]
-mod tests;

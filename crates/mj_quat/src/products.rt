@@ -1,23 +1,12 @@
-// Sums of products of a few numbers, exact at scale 64 and then rounded to scale 32.
+// Sums of products of a few numbers that are at most 1, exact at scale 64 and then rounded to scale 32.
 ghost use Rattle.std.specs.Prelude.{◌≡◌, ℕ, ◌+◌, ◌*◌, ◌^◌, ◌<◌, ◌≤◌, pos, ◌+ℤ◌, ◌-ℤ◌, ◌*ℤ◌, unsigned_abs};
 ghost use Rattle.fx_vec.specs.Settling as settling;
 ghost use Rattle.fx_vec.specs.Sizes.{Within};
 ghost use Rattle.fx_vec.specs.Views.{mids};
 ghost use Rattle.mj_quat.specs.Rotation as spec;
 
-use fx_num::{Fix, Plain, none};
+use fx_num::{Fix, Plain, none, round, rounded_product};
 use fx_vec::{V3, dot_into};
-use fx_whole::{difference, narrow, nearest_shift, product, sum};
-
-/// `a b` of numbers that are at most 1.
-fn small_product(a: &Fix<32>, b: &Fix<32>) -> i128
-    requires a { unsigned_abs a.now.mid ≤ 2 ^ 32 }
-    requires b { unsigned_abs b.now.mid ≤ 2 ^ 32 }
-    ensures value { result ≡ a.now.mid *ℤ b.now.mid }
-    ensures size { unsigned_abs result ≤ 2 ^ 64 }
-{
-    product(a.mid, b.mid)
-}
 
 /// `a b + c d` of numbers that are at most 1.
 pub(crate) fn pair_sum(a: &Fix<32>, b: &Fix<32>, c: &Fix<32>, d: &Fix<32>) -> i128
@@ -28,7 +17,7 @@ pub(crate) fn pair_sum(a: &Fix<32>, b: &Fix<32>, c: &Fix<32>, d: &Fix<32>) -> i1
     ensures value { result ≡ a.now.mid *ℤ b.now.mid +ℤ c.now.mid *ℤ d.now.mid }
     ensures size { unsigned_abs result ≤ 2 ^ 65 }
 {
-    sum(small_product(a, b), small_product(c, d))
+    fx_num::pair_sum(a, b, c, d)
 }
 
 /// `a b - c d` of numbers that are at most 1.
@@ -40,35 +29,7 @@ pub(crate) fn pair_difference(a: &Fix<32>, b: &Fix<32>, c: &Fix<32>, d: &Fix<32>
     ensures value { result ≡ a.now.mid *ℤ b.now.mid -ℤ c.now.mid *ℤ d.now.mid }
     ensures size { unsigned_abs result ≤ 2 ^ 65 }
 {
-    difference(small_product(a, b), small_product(c, d))
-}
-
-/// A sum at scale 64, rounded to scale 32.
-pub(crate) fn round(n: &i128) -> Fix<32>
-    requires { unsigned_abs n.now ≤ 2 ^ 94 }
-    ensures { result.mid ≡ spec.round n.now }
-{
-    Fix::from_raw(narrow(nearest_shift(*n, 32)))
-}
-
-/// `a + b`, rounded.
-pub(crate) fn round_sum(a: &i128, b: &i128) -> Fix<32>
-    requires a { unsigned_abs a.now ≤ 2 ^ 66 }
-    requires b { unsigned_abs b.now ≤ 2 ^ 66 }
-    ensures value { result.mid ≡ spec.round (a.now +ℤ b.now) }
-    ensures size { unsigned_abs result.mid ≤ 2 ^ 35 }
-{
-    round(&sum(*a, *b))
-}
-
-/// `a - b`, rounded.
-pub(crate) fn round_difference(a: &i128, b: &i128) -> Fix<32>
-    requires a { unsigned_abs a.now ≤ 2 ^ 66 }
-    requires b { unsigned_abs b.now ≤ 2 ^ 66 }
-    ensures value { result.mid ≡ spec.round (a.now -ℤ b.now) }
-    ensures size { unsigned_abs result.mid ≤ 2 ^ 35 }
-{
-    round(&difference(*a, *b))
+    fx_num::pair_difference(a, b, c, d)
 }
 
 /// `a b` for a factor `b` that is at most 1, rounded: no larger than `a`.
@@ -78,7 +39,7 @@ pub(crate) fn round_product(a: &Fix<32>, b: &Fix<32>) -> Fix<32>
     ensures value { result.mid ≡ spec.round (a.now.mid *ℤ b.now.mid) }
     ensures size { unsigned_abs result.mid ≤ unsigned_abs a.now.mid }
 {
-    round(&product(a.mid, b.mid))
+    rounded_product(a, b)
 }
 
 /// A matrix's row times a vector, rounded.

@@ -5,8 +5,8 @@ ghost use Rattle.fx_vec.specs.Sizes.{Within};
 ghost use Rattle.fx_vec.specs.Views.{mids};
 ghost use Rattle.mj_quat.specs.Rotation as spec;
 
-use crate::products::{pair_difference, pair_sum, round_difference, round_dot, round_sum};
-use fx_num::{Fix, Plain};
+use crate::products::{pair_difference, pair_sum, round_dot};
+use fx_num::{Fix, Plain, rounded_difference, rounded_sum};
 use fx_vec::{M3, Q4, V3, Vector3};
 
 /// `2 n`, rounded.
@@ -15,7 +15,7 @@ fn twice(n: &i128) -> Fix<32>
     ensures value { result.mid ≡ spec.round (pos 2 *ℤ n.now) }
     ensures size { unsigned_abs result.mid ≤ 2 ^ 35 }
 {
-    round_sum(n, n)
+    rounded_sum(n, n)
 }
 
 /// `1 - 2 n`, rounded.
@@ -25,7 +25,7 @@ fn one_less_twice(n: &i128) -> Fix<32>
     ensures size { unsigned_abs result.mid ≤ 2 ^ 35 }
 {
     let one = 1i128 << 64;
-    round_difference(&one, &(2 * *n))
+    rounded_difference(&one, &(2 * *n))
 }
 
 /// The first row of a rotation's matrix.

@@ -6,9 +6,6 @@ ghost use Rattle.mj_quat.specs.Sine as spec;
 use fx_num::Fix;
 use fx_whole::{difference, narrow, nearest_shift, product, scale_up, size};
 
-#[cfg(test)]
-mod tests;
-
 /// A quarter turn at scale 61.
 const QUARTER_TURN: i64 = 0x3243_F6A8_885A_308D;
 

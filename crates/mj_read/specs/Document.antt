@@ -1,4 +1,4 @@
--- The document of a model, and the raw model that stands for it.
+-- The document of a model, and the raw model that it is read into.
 use Rattle.std.specs.Prelude.{◌≡◌, ℕ, pos, nat_lt, ◌==◌, if◌then◌else◌, List, [], ◌∷◌, length, codes, Option, Some, None, Ok}
 use Rattle.std.specs.Ordering.{int_eq}
 use Rattle.std.specs.Str.{is_utf8}
@@ -50,10 +50,6 @@ model known t = do
 -- the walk of a whole document
 abbrev pub document_model : Members → Read RawModel
 document_model t = model (format_of t) t
-
--- the raw model stands for the document
-abbrev pub StandsFor : RawModel → Members → Type 0
-StandsFor raw t = document_model t ≡ Ok raw
 
 -- the document that bytes are: UTF-8 text, as the grammar of TOML reads it
 abbrev pub document : List ℕ → Option Members

@@ -12,8 +12,6 @@ pub mod keyframes;
 pub mod motors;
 pub mod settings;
 pub mod tendons;
-#[cfg(test)]
-mod tests;
 
 pub use bodies::{RawBody, RawInertial};
 pub use document::{RawModel, raw_model};

@@ -8,20 +8,15 @@ use Rattle.mj_types.specs.declared.parts.JointKind.TheVariants.{Free, Ball, Hing
 use Rattle.mj_types.specs.Lawful.{position_limit, positions_before, velocities_before}
 use Rattle.mj_types.specs.States.{Fits}
 use Rattle.mj_types.specs.Parts.{joint, position_count, velocity_count, number_at}
+use Rattle.mj_types.proofs.ModelLaws.{some_velocity}
 use Rattle.mj_rows.specs.Joints.{position}
 
--- each joint has a position and a velocity
+-- each joint has a position
 some_position : (k : JointKind) → 1 ≤ position_count k
 some_position Free = omega arith
 some_position Ball = omega arith
 some_position Hinge = omega arith
 some_position Slide = omega arith
-
-pub some_velocity : (k : JointKind) → 1 ≤ velocity_count k
-some_velocity Free = omega arith
-some_velocity Ball = omega arith
-some_velocity Hinge = omega arith
-some_velocity Slide = omega arith
 
 limit_small : (k : JointKind) → position_limit k 0 ≤ 2 ^ 52
 limit_small Free = omega arith

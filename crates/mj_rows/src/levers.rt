@@ -20,7 +20,7 @@ use fx_whole::{difference, narrow, nearest_shift, product, scale_up, sum};
 use mj_types::{Contact, Frames, Model, OutOfRange, Quantity};
 
 /// A vector before its numbers are judged.
-#[derive(Clone, Copy, Debug)]
+#[derive(Clone, Copy)]
 pub(crate) struct Exact {
     pub(crate) x: Wide<32>,
     pub(crate) y: Wide<32>,

@@ -12,8 +12,6 @@ mod limits;
 mod mixing;
 mod pushing;
 mod slopes;
-#[cfg(test)]
-mod tests;
 
 pub use count::{judge_count, row_count};
 pub use edges::{edge, edge_count, first_edge};

@@ -18,7 +18,7 @@ use fx_num::{Fix, Number};
 use mj_types::{Applied, Model, Range, Row, Soft, Source, State, Term};
 
 /// What is held within a range: a joint's position, or a tendon's length.
-#[derive(Clone, Copy, Debug)]
+#[derive(Clone, Copy)]
 pub(crate) struct Extent {
     pub(crate) range: Option<Range>,
     pub(crate) margin: Fix<32>,

@@ -20,7 +20,7 @@ use fx_vec::{V3, project};
 use mj_types::{Contact, Frames, Model, OutOfRange};
 
 /// How a dof moves the two geoms of a contact apart: along the normal and the two tangents.
-#[derive(Clone, Copy, Debug)]
+#[derive(Clone, Copy)]
 pub struct Slope {
     pub normal: Fix<32>,
     pub first: Fix<32>,

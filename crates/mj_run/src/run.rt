@@ -1,5 +1,5 @@
 // A run: the steps one after another, each told as it is done.
-ghost use Rattle.std.specs.Prelude.{◌≡◌, ◌+◌, ◌-◌, ◌*◌, ◌<◌, ◌^◌, false, length, take, drop, ℕ, IsTrue, IfOk, IfErr, MatchResult, None};
+ghost use Rattle.std.specs.Prelude.{◌≡◌, ◌+◌, ◌-◌, ◌*◌, ◌<◌, ◌^◌, true, false, length, take, drop, ℕ, IsTrue, IfOk, IfErr, MatchResult, None};
 ghost use Rattle.fx_whole.specs.First.{refusal_of};
 ghost use Rattle.mj_io.specs.Sent.{Sent};
 ghost use Rattle.mj_passive.specs.Forces.{AreControls};
@@ -173,6 +173,7 @@ fn send_steps<S: Sink>(
         (λ end. end ≡ end_of model.now
         (spec.controls_at (length model.now.motors) (spec.tape_of controls.now)) steps)
         (λ _. page.new.going ≡ false) }
+    ensures goes_on { page.old.going ≡ true → IfOk result (λ _. page.new.going ≡ true) }
 {
     for done in 0..steps {
         let row = controls.at(model.motors.len(), steps, done);
@@ -188,8 +189,8 @@ fn send_steps<S: Sink>(
 }
 
 /// Runs the model for this many steps from its start and sends the trace: the header, a block for each
-/// step that is done, with its dual where `wants` says so, and the end, which is the answer. `Failed` where the writing stopped; what was
-/// sent is a prefix of the trace.
+/// step that is done, with its dual where `wants` says so, and the end, which is the answer. `Failed` where
+/// the writing stopped; what was sent is a prefix of the trace.
 pub fn send_run<S: Sink>(
     sink: &mut S,
     page: &mut Page,

@@ -19,6 +19,7 @@ use Rattle.mj_types.specs.declared.state.State.{State}
 use Rattle.mj_types.specs.Control.{Control}
 use Rattle.mj_types.specs.Parts.{number_at}
 use Rattle.mj_types.specs.Placed.{Placing, placing_of}
+use Rattle.mj_types.specs.Problems.{IsSolvable}
 use Rattle.mj_types.specs.StepValues.{active_count, dual_values}
 use Rattle.mj_step.specs.Steps.{smooth, constraints_at, dynamics_of, rows_at, dual_at}
 use Rattle.mj_step.specs.Workspace.{HasFrames, HasApplied, HasFactor, HasRows}
@@ -49,11 +50,12 @@ module _ (m : Model) (s : State) (u : List Control) (y : Dynamics) (cs : List Co
   assembly_fault-is = ap (assembly_fault m y) here ∙ assembly_fault-reads y (dynamics_of m s u) same (constraints_at m s) m
 
   pub rows-are : (rows : Rows) (d : Dual) → rows.list.list ≡ row_list y cs → HasJacobians m.nv cs rows.jac.list → dual_values d ≡ dual_of y cs
-      → d.m ≡ active_count rows.list.list → HasRows m s u rows d
+      → d.m ≡ active_count rows.list.list → IsSolvable d → HasRows m s u rows d
   unfolding rows_at dual_at
-  rows-are rows d list jacobians dual_ count = record {
+  rows-are rows d list jacobians dual_ count solvable = record {
     list = list ∙ ap (row_list y) here ∙ row_list-reads y (dynamics_of m s u) same (constraints_at m s);
     jacobians = subst (λ (c : List Constraint). HasJacobians m.nv c rows.jac.list) here jacobians;
     dual_ = dual_ ∙ ap (dual_of y) here ∙ dual_of-reads y (dynamics_of m s u) same (constraints_at m s);
     count = count;
+    solvable = solvable;
   }

@@ -22,7 +22,7 @@ use Rattle.mj_types.specs.Forests.{above_in}
 use Rattle.mj_types.specs.Masses.{IsMass, mass_at, mass_radius_at}
 use Rattle.mj_types.specs.Parts.{number_at}
 use Rattle.mj_types.specs.Placed.{AreFrames, placing_of}
-use Rattle.mj_types.specs.Problems.{HasRoom, place, forces}
+use Rattle.mj_types.specs.Problems.{IsSolvable, HasRoom, place, forces}
 use Rattle.mj_types.specs.Rooms.{FramesRoom, CompositeRoom, MassRoom, AppliedRoom, ContactsRoom}
 use Rattle.mj_types.specs.RowRooms.{RowsRoom, ReportRoom}
 use Rattle.mj_types.specs.StepValues.{active_count, dual_values}
@@ -97,6 +97,7 @@ pub record HasRows (m : Model) (s : State) (u : List Control) (rows : Rows) (d :
   pub jacobians : HasJacobians m.nv (constraints_at m s) rows.jac.list
   pub dual_ : dual_values d ≡ dual_at m s u
   pub count : d.m ≡ active_count rows.list.list
+  pub solvable : IsSolvable d
 
 -- what pushes on the dofs: the dual's rows, with their Jacobians in the list of rows, and their forces
 pub record CanPush (nv : ℕ) (rows : Rows) (d : Dual) (x : Forces) : Type 0 where

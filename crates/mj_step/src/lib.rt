@@ -4,8 +4,6 @@
 pub mod laws;
 mod loading;
 mod report;
-#[cfg(test)]
-mod tests;
 pub mod work;
 
 pub use laws::{steps_are_certified, steps_are_covered};

@@ -5,6 +5,3 @@ mod judge;
 pub mod reading;
 
 pub use reading::{tape, tapes_hold_their_fields};
-
-#[cfg(test)]
-mod tests;

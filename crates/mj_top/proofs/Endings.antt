@@ -20,7 +20,7 @@ use Rattle.mj_words.specs.declared.table.Command.{Command}
 use Rattle.mj_words.specs.declared.table.Command.TheVariants as command
 use Rattle.mj_words.specs.Words.{bad_place, command_of, model_of, step_count, tape_of, wants_dual}
 use Rattle.mj_top.specs.Outcome.{Outcome, IsOutcome, IsFileOutcome, IsCommandOutcome, IsWordsOutcome, words_refused, status_of, tape_room, with_summed_tape, bench_of, IsBenchOutcome, with_tape, with_tape_file, with_tape_name, with_model, model_cap}
-use Rattle.mj_top.specs.Ends.{Answers, WritesNothing, HasCause, Completes, RunReadRose, BatchReadRose, CommandReadRose, ReadRose, TapeRose, HasLaterCause, Ends, EndsOrMemory, EndsMeant, unless_failed}
+use Rattle.mj_top.specs.Ends.{Answers, LeavesSink, HasCause, Completes, RunReadRose, BatchReadRose, CommandReadRose, ReadRose, TapeRose, HasLaterCause, Ends, EndsOrMemory, EndsMeant, unless_failed}
 
 -- a status that tells of an outcome, and of no fault
 abbrev pub IsTold : Status → Type 0
@@ -70,32 +70,32 @@ answers-within Meant Wider status.Memory old new within answers = answers
 
 module _ {K : Type 0} (holds : K → Option (List ℕ)) (faults : K → ℕ) (a b : K) where
   -- the whole text was written
-  pub ends_whole : (outcome : Outcome) (answer : Status) → IsTold answer → answer ≡ outcome.status → Grew (holds a) outcome.text (holds b) → Ends holds faults outcome a answer b
-  ends_whole outcome status.Done told e grew = record { same = e; grew = grew }
-  ends_whole outcome (status.BadWords at) told e grew = record { same = e; grew = grew }
-  ends_whole outcome (status.OutOfRange step kind index) told e grew = record { same = e; grew = grew }
-  ends_whole outcome (status.BadModel fault) told e grew = record { same = e; grew = grew }
-  ends_whole outcome (status.BadTape tape fault) told e grew = record { same = e; grew = grew }
-  ends_whole outcome status.ReadFault told e grew = told
-  ends_whole outcome status.WriteFault told e grew = absurd told
-  ends_whole outcome status.Memory told e grew = told
+  pub ends_whole : (outcome : Outcome) (answer : Status) → IsTold answer → answer ≡ outcome.status → Grew (holds a) outcome.text (holds b) → faults b ≡ faults a → Ends holds faults outcome a answer b
+  ends_whole outcome status.Done told e grew calm = (record { same = e; grew = grew }, calm)
+  ends_whole outcome (status.BadWords at) told e grew calm = (record { same = e; grew = grew }, calm)
+  ends_whole outcome (status.OutOfRange step kind index) told e grew calm = (record { same = e; grew = grew }, calm)
+  ends_whole outcome (status.BadModel fault) told e grew calm = (record { same = e; grew = grew }, calm)
+  ends_whole outcome (status.BadTape tape fault) told e grew calm = (record { same = e; grew = grew }, calm)
+  ends_whole outcome status.ReadFault told e grew calm = told
+  ends_whole outcome status.WriteFault told e grew calm = absurd told
+  ends_whole outcome status.Memory told e grew calm = told
 
   -- a text was written through a page, and the answer is the status unless that failed
   pub ends-from_wrote : {T E : Type 0} (r : Result T E) (outcome : Outcome) (answer : Status) → IsTold outcome.status → Wrote holds faults a outcome.text r b → answer ≡ unless_failed r outcome.status → Ends holds faults outcome a answer b
   ends-from_wrote (Ok done) outcome answer told wrote e =
       let P = λ (s : Status). Ends holds faults outcome a s b in
-      subst P (sym e) (ends_whole outcome outcome.status told refl wrote.whole)
+      subst P (sym e) (ends_whole outcome outcome.status told refl wrote.whole wrote.calm)
   ends-from_wrote (Err failed) outcome answer told wrote e =
       let P = λ (s : Status). Ends holds faults outcome a s b in
       subst P (sym e) (wrote.part, wrote.cause)
 
   -- what ends so answers any meaning of the outcome
   pub answers-from_ends : (Meant : Outcome → Type 0) (outcome : Outcome) (answer : Status) → Meant outcome → Ends holds faults outcome a answer b → Answers Meant answer (holds a) (holds b)
-  answers-from_ends Meant outcome status.Done e ends = (outcome, e, ends)
-  answers-from_ends Meant outcome (status.BadWords at) e ends = (outcome, e, ends)
-  answers-from_ends Meant outcome (status.OutOfRange step kind index) e ends = (outcome, e, ends)
-  answers-from_ends Meant outcome (status.BadModel fault) e ends = (outcome, e, ends)
-  answers-from_ends Meant outcome (status.BadTape tape fault) e ends = (outcome, e, ends)
+  answers-from_ends Meant outcome status.Done e ends = (outcome, e, ends.0)
+  answers-from_ends Meant outcome (status.BadWords at) e ends = (outcome, e, ends.0)
+  answers-from_ends Meant outcome (status.OutOfRange step kind index) e ends = (outcome, e, ends.0)
+  answers-from_ends Meant outcome (status.BadModel fault) e ends = (outcome, e, ends.0)
+  answers-from_ends Meant outcome (status.BadTape tape fault) e ends = (outcome, e, ends.0)
   answers-from_ends Meant outcome status.ReadFault e ends = absurd ends
   answers-from_ends Meant outcome status.WriteFault e ends = (outcome, e, ends.0)
   answers-from_ends Meant outcome status.Memory e ends = absurd ends
@@ -107,29 +107,29 @@ module _ {K : Type 0} (holds : K → Option (List ℕ)) (faults : K → ℕ) (a 
       subst P (sym wanted.0) (ap holds wanted.1)
   answers-from_either Meant outcome answer e (inr ends) = answers-from_ends Meant outcome answer e ends
 
-  pub nothing-from_ends : (outcome : Outcome) (answer : Status) → Ends holds faults outcome a answer b → WritesNothing answer (holds a) (holds b)
-  nothing-from_ends outcome status.Done ends = tt
-  nothing-from_ends outcome (status.BadWords at) ends = tt
-  nothing-from_ends outcome (status.OutOfRange step kind index) ends = tt
-  nothing-from_ends outcome (status.BadModel fault) ends = tt
-  nothing-from_ends outcome (status.BadTape tape fault) ends = tt
-  nothing-from_ends outcome status.ReadFault ends = absurd ends
-  nothing-from_ends outcome status.WriteFault ends = tt
-  nothing-from_ends outcome status.Memory ends = absurd ends
+  pub leaves-from_ends : (outcome : Outcome) (answer : Status) → Ends holds faults outcome a answer b → LeavesSink faults answer a b
+  leaves-from_ends outcome status.Done ends = ends.1
+  leaves-from_ends outcome (status.BadWords at) ends = ends.1
+  leaves-from_ends outcome (status.OutOfRange step kind index) ends = ends.1
+  leaves-from_ends outcome (status.BadModel fault) ends = ends.1
+  leaves-from_ends outcome (status.BadTape tape fault) ends = ends.1
+  leaves-from_ends outcome status.ReadFault ends = absurd ends
+  leaves-from_ends outcome status.WriteFault ends = tt
+  leaves-from_ends outcome status.Memory ends = absurd ends
 
-  pub nothing-from_either : (outcome : Outcome) (answer : Status) → EndsOrMemory holds faults outcome a answer b → WritesNothing answer (holds a) (holds b)
-  nothing-from_either outcome answer (inl wanted) =
-      let P = λ (s : Status). WritesNothing s (holds a) (holds b) in
-      subst P (sym wanted.0) (ap holds wanted.1)
-  nothing-from_either outcome answer (inr ends) = nothing-from_ends outcome answer ends
+  pub leaves-from_either : (outcome : Outcome) (answer : Status) → EndsOrMemory holds faults outcome a answer b → LeavesSink faults answer a b
+  leaves-from_either outcome answer (inl wanted) =
+      let P = λ (s : Status). LeavesSink faults s a b in
+      subst P (sym wanted.0) wanted.1
+  leaves-from_either outcome answer (inr ends) = leaves-from_ends outcome answer ends
 
   -- refused words have their cause
   pub cause-from_refused : (words : List (List ℕ)) (tells : Bool) (held : List ℕ → Option (List ℕ)) (at : ℕ) (answer : Status) (reads reads' : List ℕ → ℕ) → bad_place words ≡ Some at → Ends holds faults (words_refused at) a answer b → HasCause words tells held answer reads reads' (faults a) (faults b)
-  cause-from_refused words tells held at status.Done reads reads' bad ends = absurd (let e = ends.same in cc)
-  cause-from_refused words tells held at (status.BadWords there) reads reads' bad ends = let e = ends.same in let same : there ≡ at = cc in bad ∙ ap Some (sym same)
-  cause-from_refused words tells held at (status.OutOfRange step kind index) reads reads' bad ends = absurd (let e = ends.same in cc)
-  cause-from_refused words tells held at (status.BadModel fault) reads reads' bad ends = absurd (let e = ends.same in cc)
-  cause-from_refused words tells held at (status.BadTape tape fault) reads reads' bad ends = absurd (let e = ends.same in cc)
+  cause-from_refused words tells held at status.Done reads reads' bad ends = absurd (let e = ends.0.same in cc)
+  cause-from_refused words tells held at (status.BadWords there) reads reads' bad ends = let e = ends.0.same in let same : there ≡ at = cc in bad ∙ ap Some (sym same)
+  cause-from_refused words tells held at (status.OutOfRange step kind index) reads reads' bad ends = absurd (let e = ends.0.same in cc)
+  cause-from_refused words tells held at (status.BadModel fault) reads reads' bad ends = absurd (let e = ends.0.same in cc)
+  cause-from_refused words tells held at (status.BadTape tape fault) reads reads' bad ends = absurd (let e = ends.0.same in cc)
   cause-from_refused words tells held at status.ReadFault reads reads' bad ends = absurd ends
   cause-from_refused words tells held at status.WriteFault reads reads' bad ends = ends.1
   cause-from_refused words tells held at status.Memory reads reads' bad ends = absurd ends
@@ -137,7 +137,7 @@ module _ {K : Type 0} (holds : K → Option (List ℕ)) (faults : K → ℕ) (a 
   -- what ends after the words has its cause
   pub later_cause-from_ends : (Read : Type 0) (outcome : Outcome) (answer : Status) → IsLater outcome.status → Ends holds faults outcome a answer b → HasLaterCause Read answer (faults a) (faults b)
   later_cause-from_ends Read outcome status.Done later ends = tt
-  later_cause-from_ends Read outcome (status.BadWords at) later ends = let P = λ (s : Status). IsLater s in subst P (sym ends.same) later
+  later_cause-from_ends Read outcome (status.BadWords at) later ends = let P = λ (s : Status). IsLater s in subst P (sym ends.0.same) later
   later_cause-from_ends Read outcome (status.OutOfRange step kind index) later ends = tt
   later_cause-from_ends Read outcome (status.BadModel fault) later ends = tt
   later_cause-from_ends Read outcome (status.BadTape number fault) later ends = tt
@@ -162,11 +162,11 @@ module _ {K : Type 0} (holds : K → Option (List ℕ)) (faults : K → ℕ) (a 
       subst P (sym wanted.0) (ap holds wanted.1)
   answers-from_meant (inr ends) = answers-from_ends holds faults a b Meant ends.0 answer ends.1 ends.2
 
-  pub nothing-from_meant : EndsMeant holds faults Meant a answer b → WritesNothing answer (holds a) (holds b)
-  nothing-from_meant (inl wanted) =
-      let P = λ (s : Status). WritesNothing s (holds a) (holds b) in
-      subst P (sym wanted.0) (ap holds wanted.1)
-  nothing-from_meant (inr ends) = nothing-from_ends holds faults a b ends.0 answer ends.2
+  pub leaves-from_meant : EndsMeant holds faults Meant a answer b → LeavesSink faults answer a b
+  leaves-from_meant (inl wanted) =
+      let P = λ (s : Status). LeavesSink faults s a b in
+      subst P (sym wanted.0) wanted.1
+  leaves-from_meant (inr ends) = leaves-from_ends holds faults a b ends.0 answer ends.2
 
   pub later_cause-from_meant : (Read : Type 0) → ((o : Outcome) → Meant o → IsLater o.status) → EndsMeant holds faults Meant a answer b → HasLaterCause Read answer (faults a) (faults b)
   later_cause-from_meant Read later (inl wanted) =

@@ -1,3 +1,5 @@
 pub mod Endings
+pub mod HeadlineLaws
+pub mod Once
 pub mod Served
 pub mod Taken

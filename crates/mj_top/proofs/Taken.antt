@@ -20,9 +20,9 @@ use Rattle.mj_words.specs.Words.{bad_place, command_of, model_of, nth_tape, step
 use Rattle.mj_top.specs.declared.batch.Stopped.{Stopped}
 use Rattle.mj_top.specs.declared.batch.Stopped.TheVariants as stopped
 use Rattle.mj_top.specs.Outcome.{Outcome, kept_before, tape_room, tape_cap, tape_refused, model_cap, IsTapeJudged, AreFirstTapes, IsTapesOutcome, IsTapesOutcomeOf, IsBatchFileOutcome, IsOutcome}
-use Rattle.mj_top.specs.Ends.{Answers, WritesNothing, HasLaterCause, NthTapeRose, AcceptsTapes}
+use Rattle.mj_top.specs.Ends.{Answers, LeavesSink, HasLaterCause, NthTapeRose, AcceptsTapes}
 use Rattle.mj_top.specs.Taking.{ReadsOn, TakesFile, HasTaken, StopsFor, TakesNext, EndsStopped}
-use Rattle.mj_top.proofs.Endings.{answers-from_ends, nothing-from_ends, later_cause-from_ends, outcome-is}
+use Rattle.mj_top.proofs.Endings.{answers-from_ends, leaves-from_ends, later_cause-from_ends, outcome-is}
 
 -- ---- reads one after another
 pub reads-none : (tells : Bool) (held : List ℕ → Option (List ℕ)) (reads : List ℕ → ℕ) → ReadsOn tells tells held held reads reads
@@ -136,15 +136,15 @@ module _ (words : List (List ℕ)) (tells : Bool) (held : List ℕ → Option (L
     answers-from_stopped (stopped.Refused tape fault) answer stops ends told =
         answers-from_ends holds faults a b (IsTapesOutcome held words m) (tape_refused tape fault) answer (stops told) ends
 
-    pub nothing-from_stopped : (why : Stopped) (answer : Status) → EndsStopped holds faults why a answer b → WritesNothing answer (holds a) (holds b)
-    nothing-from_stopped stopped.ReadFault answer ends =
-        let P = λ (s : Status). WritesNothing s (holds a) (holds b) in
-        subst P (sym ends.0) (ap holds ends.1)
-    nothing-from_stopped stopped.Memory answer ends =
-        let P = λ (s : Status). WritesNothing s (holds a) (holds b) in
-        subst P (sym ends.0) (ap holds ends.1)
-    nothing-from_stopped (stopped.Refused tape fault) answer ends =
-        nothing-from_ends holds faults a b (tape_refused tape fault) answer ends
+    pub leaves-from_stopped : (why : Stopped) (answer : Status) → EndsStopped holds faults why a answer b → LeavesSink faults answer a b
+    leaves-from_stopped stopped.ReadFault answer ends =
+        let P = λ (s : Status). LeavesSink faults s a b in
+        subst P (sym ends.0) ends.1
+    leaves-from_stopped stopped.Memory answer ends =
+        let P = λ (s : Status). LeavesSink faults s a b in
+        subst P (sym ends.0) ends.1
+    leaves-from_stopped (stopped.Refused tape fault) answer ends =
+        leaves-from_ends holds faults a b (tape_refused tape fault) answer ends
 
     pub later_cause-from_stopped : (why : Stopped) (answer : Status) → StopsFor words tells held m reads reads' why → EndsStopped holds faults why a answer b → HasLaterCause (NthTapeRose words tells (AcceptsTapes words held m) reads reads') answer (faults a) (faults b)
     later_cause-from_stopped stopped.ReadFault answer stops ends =

@@ -32,11 +32,13 @@ Answers Meant status.ReadFault old new = new ≡ old
 Answers Meant status.Memory old new = new ≡ old
 Answers Meant answer old new = (outcome : Outcome) × Meant outcome × EndsAs outcome answer old new
 
--- after a fault in reading and after want of memory nothing was written
-abbrev pub WritesNothing : Status → Option (List ℕ) → Option (List ℕ) → Type 0
-WritesNothing status.ReadFault old new = new ≡ old
-WritesNothing status.Memory old new = new ≡ old
-WritesNothing answer old new = Unit {0}
+-- what an answer leaves of the sink: after a fault in reading and after want of memory it is as it was, and
+-- nothing was written; after any other answer but a fault in writing no fault was counted
+abbrev pub LeavesSink : {K : Type 0} → (K → ℕ) → Status → K → K → Type 0
+LeavesSink faults status.ReadFault old new = new ≡ old
+LeavesSink faults status.Memory old new = new ≡ old
+LeavesSink faults status.WriteFault old new = Unit {0}
+LeavesSink faults answer old new = faults new ≡ faults old
 
 -- bytes are judged to be a model
 abbrev pub AreModel : List ℕ → Type 0
@@ -128,13 +130,14 @@ HasLaterCause Read answer writes writes' = Unit {0}
 
 -- ---- within the command, where no file is read any more
 
--- an outcome was written to the sink `old`, whole, or a prefix of it after a fault of the sink
+-- an outcome was written to the sink `old`, whole and without a fault, or a prefix of it after a fault
 abbrev pub Ends : {K : Type 0} → (K → Option (List ℕ)) → (K → ℕ) → Outcome → K → Status → K → Type 0
 Ends holds faults outcome old status.ReadFault new = ⊥
 Ends holds faults outcome old status.Memory new = ⊥
 Ends holds faults outcome old status.WriteFault new =
     GrewPart (holds old) outcome.text (holds new) × Rose (faults old) (faults new)
-Ends holds faults outcome old answer new = EndsWhole outcome (holds old) answer (holds new)
+Ends holds faults outcome old answer new =
+    EndsWhole outcome (holds old) answer (holds new) × (faults new ≡ faults old)
 
 -- the same, or memory was wanted and the sink is as it was
 abbrev pub EndsOrMemory :

@@ -1,3 +1,5 @@
 pub mod Ends
+pub mod Headline
+pub mod Once
 pub mod Outcome
 pub mod Taking

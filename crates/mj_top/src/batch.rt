@@ -4,7 +4,7 @@ ghost use Rattle.mj_run.specs.Batch.{AreJobsOf};
 ghost use Rattle.mj_tape.specs.Judging.{TapeValues};
 ghost use Rattle.mj_types.specs.declared.model.Model.{Model};
 ghost use Rattle.mj_words.specs.Words as command;
-ghost use Rattle.mj_top.specs.Ends.{Answers, WritesNothing, HasCause, HasLaterCause, NthTapeRose, AcceptsTapes, AcceptsTapesOf, Ends};
+ghost use Rattle.mj_top.specs.Ends.{Answers, LeavesSink, HasCause, HasLaterCause, NthTapeRose, AcceptsTapes, AcceptsTapesOf, Ends};
 ghost use Rattle.mj_top.specs.Outcome as spec;
 ghost use Rattle.mj_top.specs.Taking.{ReadsOn, TakesBytes, TakesFile, HasTaken, TakesNext, TakesAll, EndsStopped};
 
@@ -20,7 +20,7 @@ use std::alloc::Global;
 use std::thread::Threads;
 
 /// Why no tape more is taken: a read failed, memory was wanted, or a tape is refused.
-#[derive(Clone, Copy, Debug)]
+#[derive(Clone, Copy)]
 pub enum Stopped {
     ReadFault,
     Memory,
@@ -173,7 +173,7 @@ fn batch_model<R: Threads + Sync, C: Cabinet, S: Sink, G: Gate>(
     ensures outcome { IsTrue (C.tells cabinet.old) →
         Answers (spec.IsTapesOutcome (C.holds cabinet.old) (map string_bytes words.now) model.now)
         result (S.holds sink.old) (S.holds sink.new) }
-    ensures nothing { WritesNothing result (S.holds sink.old) (S.holds sink.new) }
+    ensures nothing { LeavesSink S.faults result sink.old sink.new }
     ensures cause { HasLaterCause (NthTapeRose (map string_bytes words.now)
         (C.tells cabinet.old)
         (AcceptsTapes (map string_bytes words.now) (C.holds cabinet.old) model.now)
@@ -210,7 +210,7 @@ fn batch_file<R: Threads + Sync, C: Cabinet, S: Sink, G: Gate>(
     ensures outcome { IsTrue (C.tells cabinet.old) →
         Answers (spec.IsBatchFileOutcome (C.holds cabinet.old) (map string_bytes words.now)
         bytes.now) result (S.holds sink.old) (S.holds sink.new) }
-    ensures nothing { WritesNothing result (S.holds sink.old) (S.holds sink.new) }
+    ensures nothing { LeavesSink S.faults result sink.old sink.new }
     ensures cause { HasLaterCause (NthTapeRose (map string_bytes words.now)
         (C.tells cabinet.old)
         (AcceptsTapesOf (map string_bytes words.now) (C.holds cabinet.old) bytes.now)
@@ -246,7 +246,7 @@ pub(crate) fn batch<R: Threads + Sync, C: Cabinet, S: Sink, G: Gate>(
     ensures outcome { IsTrue (C.tells cabinet.old) →
         Answers (spec.IsOutcome (map string_bytes words.now) (C.holds cabinet.old)) result
         (S.holds sink.old) (S.holds sink.new) }
-    ensures nothing { WritesNothing result (S.holds sink.old) (S.holds sink.new) }
+    ensures nothing { LeavesSink S.faults result sink.old sink.new }
     ensures cause { HasCause (map string_bytes words.now) (C.tells cabinet.old)
         (C.holds cabinet.old) result (C.faults cabinet.old) (C.faults cabinet.new)
         (S.faults sink.old) (S.faults sink.new) }

@@ -3,9 +3,9 @@
 
 pub mod batch;
 mod bench;
-#[cfg(test)]
-mod tests;
+pub mod laws;
 pub mod top;
 
+pub use laws::{outcomes_are_one, workers_do_not_matter};
 pub use mj_words::accepted_words_have_no_bad_place;
 pub use top::{run_gated, run_words};

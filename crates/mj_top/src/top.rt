@@ -1,18 +1,14 @@
 // The top call: what a command does, from its words to its answer.
-ghost use Rattle.std.specs.Prelude.{◌≡◌, ℕ, IsTrue, None, Some, List, length, map, string_bytes};
-ghost use Rattle.std.specs.Option.{ForSome};
-ghost use Rattle.mj_step.specs.Certified.{IsCertified};
-ghost use Rattle.mj_step.specs.Covered.{IsCovered};
+ghost use Rattle.std.specs.Prelude.{◌≡◌, IsTrue, false, None, Some, length, map, string_bytes};
 ghost use Rattle.mj_step.specs.Workspace.{MadeFor};
 ghost use Rattle.mj_tape.specs.Judging.{tape_verdict};
 ghost use Rattle.mj_types.specs.States.{Fits};
-ghost use Rattle.mj_types.specs.Control.{Control};
-ghost use Rattle.mj_types.specs.declared.model.Model.{Model};
 ghost use Rattle.mj_run.specs.Controls.{tape_of as taped, Serves};
 ghost use Rattle.mj_words.specs.Words as command;
-ghost use Rattle.mj_run.specs.Run.{start, state_at};
+ghost use Rattle.mj_run.specs.Run.{start};
+ghost use Rattle.mj_top.specs.Headline.{reads_files, Promise};
 ghost use Rattle.mj_top.specs.Outcome as spec;
-ghost use Rattle.mj_top.specs.Ends.{Answers, WritesNothing, HasCause, Completes, HasLaterCause, TapeRose, AreModel, IsMeant, Ends, EndsOrMemory, unless_failed};
+ghost use Rattle.mj_top.specs.Ends.{Answers, LeavesSink, HasCause, HasLaterCause, TapeRose, AreModel, IsMeant, Ends, EndsOrMemory, unless_failed};
 
 use crate::batch::batch;
 use crate::bench::bench;
@@ -201,7 +197,7 @@ fn run_with_tape<C: Cabinet, S: Sink>(
         (command.step_count (map string_bytes words.now)) model.now
         (command.tape_of (map string_bytes words.now)) ≡ Some o) result (S.holds sink.old)
         (S.holds sink.new) }
-    ensures nothing { WritesNothing result (S.holds sink.old) (S.holds sink.new) }
+    ensures nothing { LeavesSink S.faults result sink.old sink.new }
     ensures cause { HasLaterCause (TapeRose (command.tape_of (map string_bytes words.now))
         (C.faults cabinet.old) (C.faults cabinet.new)) result (S.faults sink.old)
         (S.faults sink.new) }
@@ -232,7 +228,7 @@ fn run_model_file<C: Cabinet, S: Sink>(
         (command.step_count (map string_bytes words.now))
         (command.tape_of (map string_bytes words.now)) bytes.now) result
         (S.holds sink.old) (S.holds sink.new) }
-    ensures nothing { WritesNothing result (S.holds sink.old) (S.holds sink.new) }
+    ensures nothing { LeavesSink S.faults result sink.old sink.new }
     ensures cause { HasLaterCause (TapeRose (command.tape_of (map string_bytes words.now))
         (C.faults cabinet.old) (C.faults cabinet.new)) result (S.faults sink.old)
         (S.faults sink.new) }
@@ -283,7 +279,7 @@ fn run_files<C: Cabinet, S: Sink>(
     ensures outcome { IsTrue (C.tells cabinet.old) →
         Answers (spec.IsOutcome (map string_bytes words.now) (C.holds cabinet.old)) result
         (S.holds sink.old) (S.holds sink.new) }
-    ensures nothing { WritesNothing result (S.holds sink.old) (S.holds sink.new) }
+    ensures nothing { LeavesSink S.faults result sink.old sink.new }
     ensures cause { HasCause (map string_bytes words.now) (C.tells cabinet.old)
         (C.holds cabinet.old) result (C.faults cabinet.old) (C.faults cabinet.new)
         (S.faults sink.old) (S.faults sink.new) }
@@ -305,13 +301,16 @@ fn run_accepted<R: Threads + Sync, C: Cabinet, S: Sink, G: Gate>(
     gate: &G,
 ) -> Status
     requires { command.bad_place (map string_bytes words.now) ≡ None }
-    ensures outcome { IsTrue (C.tells cabinet.old) →
+    ensures outcome { (IsTrue (reads_files (command.command_of (map string_bytes words.now)))
+        → IsTrue (C.tells cabinet.old)) →
         Answers (spec.IsOutcome (map string_bytes words.now) (C.holds cabinet.old)) result
         (S.holds sink.old) (S.holds sink.new) }
-    ensures nothing { WritesNothing result (S.holds sink.old) (S.holds sink.new) }
+    ensures nothing { LeavesSink S.faults result sink.old sink.new }
     ensures cause { HasCause (map string_bytes words.now) (C.tells cabinet.old)
         (C.holds cabinet.old) result (C.faults cabinet.old) (C.faults cabinet.new)
         (S.faults sink.old) (S.faults sink.new) }
+    ensures unread { reads_files (command.command_of (map string_bytes words.now)) ≡ false →
+        cabinet.new ≡ cabinet.old }
 {
     match command_of(words) {
         Command::Run => run_files(alloc, words, cabinet, sink),
@@ -333,15 +332,17 @@ fn run_accepted<R: Threads + Sync, C: Cabinet, S: Sink, G: Gate>(
 /// several tapes by as many threads as the words let work, and writes their summaries. In a batch the
 /// gate is called ahead of each tape's run with the tape's number, in the thread that runs it.
 ///
-/// `outcome`: where the cabinet tells, the answer and what the sink gains are those of the outcome for
-/// these words and files, but for `ReadFault`, `WriteFault` and `Memory`. `nothing`: after `ReadFault`
-/// and `Memory` nothing was written. `refused`: refused words have their outcome whatever the cabinet
-/// tells. `cause`: when each answer may come. `complete`: where no count rose, the answer is the
-/// outcome's, or `Memory`. `covered`: in every step of every run the printed radii cover what rounding
-/// did to the mass matrix and to the bias forces, and the printed residual is the largest error of the
-/// equation of motion. `certified`: in every step of every run the printed forces are feasible, every
-/// feasible rational force costs at least the printed bound in the dual of the state that the step starts
-/// from, and every one that costs no more than the printed forces lies in the printed box.
+/// All that is promised is one record, `Promise` (specs/Headline). `headline`: where the cabinet tells and
+/// the words are accepted, an answer of `Done` or `OutOfRange` means that there are one model, which its
+/// file's bytes are judged to be, and its tapes, that the sink gained the text of their run, and that in each
+/// step that has a block the forces are feasible, bound and box hold, and radii and residual cover what
+/// rounding did. `ends`: where all input is accepted the answer is such an end, unless a count of faults
+/// rose or memory was wanted. `outcome`: the answer and what the sink gains are those of the outcome, but for
+/// `ReadFault`, `WriteFault` and `Memory`. `complete`: where no count rose, the answer is the outcome's, or
+/// `Memory`. `cause`: when each answer may come. `nothing`: after `ReadFault` and `Memory` the sink was not
+/// touched, and but for `WriteFault` its count of faults is as it was. `unread`: where no file is read, the
+/// cabinet was not touched. `certified` and `covered` hold for all models, controls and steps, whatever the
+/// cabinet tells.
 pub fn run_gated<R: Threads + Sync, C: Cabinet, S: Sink, G: Gate>(
     rt: &R,
     alloc: Global,
@@ -350,24 +351,8 @@ pub fn run_gated<R: Threads + Sync, C: Cabinet, S: Sink, G: Gate>(
     sink: &mut S,
     gate: &G,
 ) -> Status
-    ensures outcome { IsTrue (C.tells cabinet.old) →
-        Answers (spec.IsOutcome (map string_bytes words.now) (C.holds cabinet.old)) result
-        (S.holds sink.old) (S.holds sink.new) }
-    ensures nothing { WritesNothing result (S.holds sink.old) (S.holds sink.new) }
-    ensures refused { ForSome (command.bad_place (map string_bytes words.now))
-        (λ at. Answers (λ o. o ≡ spec.words_refused at) result (S.holds sink.old)
-        (S.holds sink.new)) }
-    ensures cause { HasCause (map string_bytes words.now) (C.tells cabinet.old)
-        (C.holds cabinet.old) result (C.faults cabinet.old) (C.faults cabinet.new)
-        (S.faults sink.old) (S.faults sink.new) }
-    ensures complete { IsTrue (C.tells cabinet.old) →
-        Completes (map string_bytes words.now) (C.tells cabinet.old)
-        (C.holds cabinet.old) result (C.faults cabinet.old) (C.faults cabinet.new)
-        (S.faults sink.old) (S.faults sink.new) }
-    ensures covered { (model : Model) (controls : ℕ → List Control) (k : ℕ)
-        → IsCovered model (state_at model controls k) (controls k) }
-    ensures certified { (model : Model) (controls : ℕ → List Control) (k : ℕ)
-        → IsCertified model (state_at model controls k) (controls k) }
+    ensures { Promise C.tells C.holds C.faults S.holds S.faults (map string_bytes words.now)
+        cabinet.old cabinet.new sink.old sink.new result }
 {
     steps_are_covered();
     steps_are_certified();
@@ -385,24 +370,8 @@ pub fn run_words<R: Threads + Sync, C: Cabinet, S: Sink>(
     cabinet: &mut C,
     sink: &mut S,
 ) -> Status
-    ensures outcome { IsTrue (C.tells cabinet.old) →
-        Answers (spec.IsOutcome (map string_bytes words.now) (C.holds cabinet.old)) result
-        (S.holds sink.old) (S.holds sink.new) }
-    ensures nothing { WritesNothing result (S.holds sink.old) (S.holds sink.new) }
-    ensures refused { ForSome (command.bad_place (map string_bytes words.now))
-        (λ at. Answers (λ o. o ≡ spec.words_refused at) result (S.holds sink.old)
-        (S.holds sink.new)) }
-    ensures cause { HasCause (map string_bytes words.now) (C.tells cabinet.old)
-        (C.holds cabinet.old) result (C.faults cabinet.old) (C.faults cabinet.new)
-        (S.faults sink.old) (S.faults sink.new) }
-    ensures complete { IsTrue (C.tells cabinet.old) →
-        Completes (map string_bytes words.now) (C.tells cabinet.old)
-        (C.holds cabinet.old) result (C.faults cabinet.old) (C.faults cabinet.new)
-        (S.faults sink.old) (S.faults sink.new) }
-    ensures covered { (model : Model) (controls : ℕ → List Control) (k : ℕ)
-        → IsCovered model (state_at model controls k) (controls k) }
-    ensures certified { (model : Model) (controls : ℕ → List Control) (k : ℕ)
-        → IsCertified model (state_at model controls k) (controls k) }
+    ensures { Promise C.tells C.holds C.faults S.holds S.faults (map string_bytes words.now)
+        cabinet.old cabinet.new sink.old sink.new result }
 {
     run_gated(rt, alloc, words, cabinet, sink, &NoGate)
 }

@@ -8,8 +8,6 @@ mod pairs;
 mod planes;
 mod shape;
 mod spheres;
-#[cfg(test)]
-mod tests;
 mod touch;
 
 pub use frame::{TangentPair, tangents};

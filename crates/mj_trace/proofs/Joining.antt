@@ -1,5 +1,5 @@
 -- Texts that are joined over an index, sent one after another.
-use Rattle.std.proofs.Common.{◌≡◌, ℕ, ◌+◌, List, [], Option, sym, subst}
+use Rattle.std.proofs.Common.{◌≡◌, ℕ, ◌+◌, List, Option, sym, subst}
 use Rattle.fx_whole.specs.Joined.{joined}
 use Rattle.fx_whole.proofs.JoinedLaws.{joined-none, joined-more}
 use Rattle.mj_io.specs.Sent.{Gathered, Sent}

@@ -1,9 +1,8 @@
 -- What a trace tells of one step that was done. A format of this project's own; the sources are MuJoCo's kinds of constraint.
-use Rattle.std.specs.Prelude.{ℕ, ◌+◌, ◌==◌, Bool, cond, ℤ, List, [], ◌++◌, length, codes, decimal, Option, Some, None}
+use Rattle.std.specs.Prelude.{ℕ, ◌+◌, ◌==◌, cond, ℤ, List, [], ◌++◌, length, codes, decimal, Option, Some, None}
 use Rattle.std.specs.Fmt.{signed_decimal}
 use Rattle.fx_whole.specs.Joined.{joined}
 use Rattle.fx_whole.specs.Counting.{count_to}
-use Rattle.fx_num.specs.declared.number.Number.{Number}
 use Rattle.mj_optimum.specs.declared.stop.Stop.{Stop}
 use Rattle.mj_optimum.specs.declared.stop.Stop.TheVariants as stop
 use Rattle.mj_types.specs.declared.rows.Row.{Row}

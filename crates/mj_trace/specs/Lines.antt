@@ -1,5 +1,5 @@
 -- Lines of numbers. Lines end with a line feed, numbers are raw decimals, separated by one space. A format of this project's own.
-use Rattle.std.specs.Prelude.{ℕ, ℤ, List, ◌++◌, codes, decimal}
+use Rattle.std.specs.Prelude.{ℕ, ℤ, List, ◌++◌, codes}
 use Rattle.std.specs.Fmt.{signed_decimal}
 use Rattle.fx_whole.specs.Joined.{joined}
 

@@ -7,8 +7,6 @@ mod lines;
 pub mod refusals;
 mod rows;
 pub mod summaries;
-#[cfg(test)]
-mod tests;
 pub mod trace;
 
 pub use blocks::{block, send_block};

@@ -1,15 +1,8 @@
 -- The laws of `at_or_above` and `moves`: which body is above which, and what moves a body.
-use Rattle.std.proofs.Common.{◌≡◌, ◌≢◌, ℕ, zero, suc, ◌+◌, ◌-◌, ◌<◌, ◌≤◌, ◌==◌, nat_lt, Bool, true, false, ◌||◌, ◌⊎◌, refl, sym, ap, ◌∙◌, subst, arith, add-one, inl, inr}
+use Rattle.std.proofs.Common.{◌≡◌, ◌≢◌, ℕ, zero, suc, ◌+◌, ◌-◌, ◌<◌, ◌≤◌, ◌==◌, nat_lt, Bool, true, false, ◌||◌, ◌⊎◌, refl, sym, ap, ◌∙◌, subst, arith, inl, inr}
 use Rattle.std.proofs.lemmas.Bool.{cases_eq, cases_lt, cases_order, and_parts, and_from, or_cases, or_left, or_right, eq-eqb, ne_eqb, eqb-true, lt-ltb, ltb-true, false_from_ne_true}
 use Rattle.mj_tree.specs.Tree.{IsTree, reaches, at_or_above, moves}
 use Rattle.mj_tree.specs.TreeSums.{is_child}
-
-pub tree_from : (parent : ℕ → ℕ) → parent 0 ≡ 0 → ((b : ℕ) → parent (b + 1) ≤ b) → IsTree parent
-tree_from parent world before = record { world = world; before = each }
-  where
-    each : (b : ℕ) → 0 < b → parent b < b
-    each zero h = absurd (omega arith)
-    each (suc b) h = omega (arith, ap (λ (x : ℕ). parent x) (add-one b), before b)
 
 module _ (parent : ℕ → ℕ) (tree : IsTree parent) where
   -- a parent isn't past its child: the world's is the world

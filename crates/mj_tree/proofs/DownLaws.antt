@@ -2,9 +2,9 @@
 use Rattle.std.proofs.Common.{◌≡◌, ℕ, ◌+◌, ◌<◌, ◌≤◌, ◌==◌, true, false, ◌&&◌, sym, ap, ap₂, ◌∙◌, subst, arith, inl, inr}
 use Rattle.std.proofs.lemmas.Bool.{cases_eq, eq-eqb, ne_eqb, lt-ltb}
 use Rattle.fx_whole.specs.Adding.{Adding, IsAdding, sum_in, when_in}
-use Rattle.fx_whole.proofs.AddingLaws.{sum_in-ext, sum_in-map, sum_in-more, sum_in-add, sum_in-none, sum_in-past, when_in-true, when_in-false, when_in-map, empty_plus}
+use Rattle.fx_whole.proofs.AddingLaws.{sum_in-ext, sum_in-more, sum_in-add, sum_in-none, sum_in-past, when_in-true, when_in-false, empty_plus}
 use Rattle.mj_tree.specs.Tree.{IsTree, at_or_above, moves, above, IsLayout}
-use Rattle.mj_tree.specs.TreeSums.{sum_moving, sum_before}
+use Rattle.mj_tree.specs.TreeSums.{sum_moving}
 use Rattle.mj_tree.proofs.BodyLaws.{above_itself, moves_parent, not_moves}
 use Rattle.mj_tree.proofs.DofLaws.{body_le, none_moves_world}
 
@@ -61,26 +61,6 @@ module _ {A : Type 0} (m : Adding A) (laws : IsAdding m) (parent body : ℕ → 
   moving_is_above n f j h =
       sum_in-ext m n (λ i. when_in m (moves parent body i (body j)) (f i)) (λ i. when_in m (above parent body i j) (f i))
       (λ i l. ap (λ t. when_in m (t && moves parent body i (body j)) (f i)) (sym (lt-ltb i j (omega arith))))
-
--- a map that keeps the empty sum and sums of two goes through
-pub sum_moving_map : {A B : Type 0} → (m : Adding A) (p : Adding B) (h : A → B) → h m.empty ≡ p.empty → ((a b : A) → h (m.plus a b) ≡ p.plus (h a) (h b))
-    → (parent body : ℕ → ℕ) (n : ℕ) (f : ℕ → A) (b : ℕ) → h (sum_moving m parent body n f b) ≡ sum_moving p parent body n (λ j. h (f j)) b
-sum_moving_map m p h e s parent body n f b =
-    sum_in-map m p h e s n (λ j. when_in m (moves parent body j b) (f j))
-    ∙ sum_in-ext p n (λ j. h (when_in m (moves parent body j b) (f j))) (λ j. when_in p (moves parent body j b) (h (f j)))
-    (λ j l. when_in-map m p h e (moves parent body j b) (f j))
-
-pub sum_moving_ext : {A : Type 0} → (m : Adding A) (parent body : ℕ → ℕ) (n : ℕ) (f g : ℕ → A) (b : ℕ)
-    → ((j : ℕ) → j < n → f j ≡ g j) → sum_moving m parent body n f b ≡ sum_moving m parent body n g b
-sum_moving_ext m parent body n f g b h =
-    sum_in-ext m n (λ j. when_in m (moves parent body j b) (f j)) (λ j. when_in m (moves parent body j b) (g j))
-    (λ j l. ap (when_in m (moves parent body j b)) (h j l))
-
--- the sum over the dofs before a joint that move its body, at the place where that joint begins
-pub before_is_moving : {A : Type 0} → (m : Adding A) (parent body base : ℕ → ℕ) (f : ℕ → A) (j n b : ℕ) (x : A) → base j ≡ n → body j ≡ b
-    → x ≡ sum_moving m parent body n f b → x ≡ sum_before m parent body base f j
-before_is_moving m parent body base f j n b x e w h =
-    h ∙ ap₂ (λ (k c : ℕ). sum_moving m parent body k f c) (sym e) (sym w)
 
 module _ {A : Type 0} (m : Adding A) (laws : IsAdding m) (parent body first : ℕ → ℕ) (bodies dofs : ℕ) (layout : IsLayout parent body first bodies dofs) where
   -- nothing moves the world

@@ -2,7 +2,6 @@
 -- of src/laws.rt has the law as its clause.
 --
 -- BodyLaws, of `at_or_above` and `moves` (specs/Tree); each takes `parent` and that it `IsTree` first, the laws of `moves` then `body`
---   tree_from               a tree, from parent (b + 1) <= b
 --   parent_le, by_parents   a parent isn't past its child; what holds of the world and passes to children holds of all
 --   above_by_parent *       a at or above b: a is b, or at or above b's parent;  above_cases, above_from_parent, above_parent: parts of it
 --   above_itself *, world_is_above *, parent_is_above, above_trans *, above_antisym
@@ -23,8 +22,7 @@
 --   held_start, held_step, held_end      a loop from the last body down: what each entry holds at first, after one more turn, in the end
 --   held_put                the turn again, where the parent's entry alone is written;  held_more: the equation behind both
 --   carried_up *            the whole loop
---   sum_under_children *    own, and the children's sums;  sum_under_world, sum_under_ext, sum_under_map
---   moved_is_under          the sum over what a dof moves
+--   sum_under_children *    own, and the children's sums;  sum_under_world
 --   climb_is                b is at or above k where k climbs to b;  climb_stays, climb_up, climb_le
 --
 -- DownLaws, of `sum_moving` and `sum_before` (specs/TreeSums)
@@ -33,8 +31,6 @@
 --   moving_end_at_next *, moving_end_at, moving_end  b's sum is whole
 --   moving_world *, moving_by_parent *               nothing moves the world; the parent's sum, and that over b's own dofs
 --   moving_is_above         of the dofs before j those that move its body are those above it
---   before_is_moving        `sum_before` as the running sum at the place where a joint begins
---   sum_moving_ext, sum_moving_map
 --
 -- ListingLaws, of `height`, `start`, `listed` and `IsListing` (specs/Listing)
 --   of a forest             height_place, height_less: those above k before i are those above i;  none_later_is_above

@@ -2,8 +2,8 @@
 use Rattle.std.proofs.Common.{◌≡◌, ◌≢◌, ℕ, zero, suc, ◌+◌, ◌-◌, ◌<◌, ◌≤◌, ◌==◌, nat_le, max, true, false, cond, refl, sym, ap, ap₂, ◌∙◌, subst, arith, add-one, inl, inr}
 use Rattle.std.proofs.lemmas.Bool.{cases_eq, cases_lt, cases_Bool, both_ways, false_from_ne_true, eq-eqb, ne_eqb, le-leb, lt-leb, cond-true, cond-false}
 use Rattle.fx_whole.specs.Adding.{Adding, IsAdding, sum_in, when_in}
-use Rattle.fx_whole.proofs.AddingLaws.{sum_in-ext, sum_in-map, sum_in-add, sum_in-none, sum_in-single, sum_in-swap, when_in-true, when_in-false, when_in-empty, when_in-map, when_in-sum, empty_plus}
-use Rattle.mj_tree.specs.Tree.{IsTree, at_or_above, moves}
+use Rattle.fx_whole.proofs.AddingLaws.{sum_in-ext, sum_in-add, sum_in-none, sum_in-single, sum_in-swap, when_in-true, when_in-false, when_in-empty, when_in-sum, empty_plus}
+use Rattle.mj_tree.specs.Tree.{IsTree, at_or_above}
 use Rattle.mj_tree.specs.TreeSums.{sum_under, is_child, climbs, climb, held}
 use Rattle.mj_tree.proofs.BodyLaws.{parent_le, by_parents, above_itself, above_parent, above_le, above_trans, not_above, world_is_above, parent_is_above, parent_of_child, child_is_later, child_above, child_is_only}
 
@@ -319,27 +319,3 @@ module _ {A : Type 0} (m : Adding A) (laws : IsAdding m) (parent : ℕ → ℕ) 
                   (subst (λ (x : ℕ). at_or_above parent x c ≡ true) (parent_of_child parent tree b c q) (parent_is_above parent tree c)) t
 
 -- ---- sums of other terms
-pub sum_under_ext : {A : Type 0} → (m : Adding A) (parent : ℕ → ℕ) (n : ℕ) (f g : ℕ → A) (b : ℕ)
-    → ((k : ℕ) → k < n → at_or_above parent b k ≡ true → f k ≡ g k) → sum_under m parent n f b ≡ sum_under m parent n g b
-sum_under_ext m parent n f g b h =
-    sum_in-ext m n (λ k. when_in m (at_or_above parent b k) (f k)) (λ k. when_in m (at_or_above parent b k) (g k)) each
-  where
-    each : (k : ℕ) → k < n → when_in m (at_or_above parent b k) (f k) ≡ when_in m (at_or_above parent b k) (g k)
-    each k l =
-        elim (cases_Bool (at_or_above parent b k)) [
-          | inl e ↦ ap (when_in m (at_or_above parent b k)) (h k l e)
-          | inr e ↦ when_in-false m (at_or_above parent b k) (f k) e ∙ sym (when_in-false m (at_or_above parent b k) (g k) e)
-        ]
-
--- a map that keeps the empty sum and sums of two goes through
-pub sum_under_map : {A B : Type 0} → (m : Adding A) (p : Adding B) (h : A → B) → h m.empty ≡ p.empty → ((a b : A) → h (m.plus a b) ≡ p.plus (h a) (h b))
-    → (parent : ℕ → ℕ) (n : ℕ) (f : ℕ → A) (b : ℕ) → h (sum_under m parent n f b) ≡ sum_under p parent n (λ k. h (f k)) b
-sum_under_map m p h e s parent n f b =
-    sum_in-map m p h e s n (λ k. when_in m (at_or_above parent b k) (f k))
-    ∙ sum_in-ext p n (λ k. h (when_in m (at_or_above parent b k) (f k))) (λ k. when_in p (at_or_above parent b k) (h (f k)))
-    (λ k l. when_in-map m p h e (at_or_above parent b k) (f k))
-
--- what a dof moves is what is at or below its body
-pub moved_is_under : {A : Type 0} → (m : Adding A) (parent body : ℕ → ℕ) (n : ℕ) (f : ℕ → A) (j : ℕ)
-    → sum_in m n (λ k. when_in m (moves parent body j k) (f k)) ≡ sum_under m parent n f (body j)
-moved_is_under m parent body n f j = refl

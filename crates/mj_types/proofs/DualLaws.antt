@@ -7,9 +7,13 @@ use Rattle.fx_whole.proofs.SumLaws.{sum_to-ext}
 use Rattle.fx_num.specs.declared.number.Number.{Number}
 use Rattle.fx_num.specs.declared.number.Wide.{Wide}
 use Rattle.fx_whole.proofs.EntryLaws.{put-keeps}
+use Rattle.mj_types.specs.declared.dual.Dual.{Dual}
 use Rattle.mj_types.specs.declared.dual.DualRow.{DualRow}
 use Rattle.mj_types.specs.Parts.{number_at, plain}
-use Rattle.mj_types.specs.Duals.{AreRows, MayBeRow, wide_at, bound, bound_at, entry_at, is_low, is_high}
+use Rattle.mj_types.specs.Problems.{problem}
+use Rattle.mj_optimum.specs.Problem.{IsRegular}
+use Rattle.std.proofs.lemmas.Int.{ints}
+use Rattle.mj_types.specs.Duals.{AreRows, AreSolvable, IsSolvableRow, MayBeRow, MayBeSolved, wide_at, bound, bound_at, entry_at, is_in_range, is_low, is_high}
 
 -- what a put leaves of a list
 pub record IsPut {A : Type 0} (old new : List A) (i : ℕ) (x : A) : Type 0 where
@@ -51,16 +55,36 @@ rows-more m nv place place' g g' diag diag' r r' b b' low low' high high' number
       high_room = omega (arith, put_high.len);
       reduced = λ i k h l. each (λ a. unsigned_abs (entry_at nv g' a k) ≤ 2 ^ 44) m
           (λ a q. rw (entry-before m nv g g' numbers copied a k q l) (old.reduced a k q l)) (rw (copied.here k l) (may.reduced k l)) i h;
-      diagonal = each (λ a. wide_at diag' a ≡ sum_to nv (λ k. entry_at nv g' a k *ℤ entry_at nv g' a k)) m
-          (λ a q. ap (λ x. x.raw) (put_diag.others (record { raw = pos 0 }) a (λ e. absurd (omega arith))) ∙ old.diagonal a q
-          ∙ sum_to-ext nv (λ k. entry_at nv g a k *ℤ entry_at nv g a k) (λ k. entry_at nv g' a k *ℤ entry_at nv g' a k) (λ k l. ap (λ x. x *ℤ x) (sym (entry-before m nv g g' numbers copied a k q l))))
-          (ap (λ x. x.raw) (put_diag.same (record { raw = pos 0 })) ∙ may.diagonal
-          ∙ sum_to-ext nv (λ k. number_at numbers k *ℤ number_at numbers k) (λ k. entry_at nv g' m k *ℤ entry_at nv g' m k) (λ k l. ap (λ x. x *ℤ x) (sym (copied.here k l))));
-      not_idle = kept (λ (x : Wide 48). pos (2 ^ 28) ≤ℤ x.raw) (record { raw = pos 0 }) diag diag' m row.diag put_diag old.not_idle may.ranges.not_idle;
-      diag_limit = kept (λ (x : Wide 48). x.raw ≤ℤ pos (2 ^ 72)) (record { raw = pos 0 }) diag diag' m row.diag put_diag old.diag_limit may.ranges.diag_limit;
       regular = kept (λ (x : Wide 48). pos 1 ≤ℤ x.raw) (record { raw = pos 0 }) r r' m row.r put_r old.regular may.ranges.regular;
       r_limit = kept (λ (x : Wide 48). x.raw ≤ℤ pos (2 ^ 72)) (record { raw = pos 0 }) r r' m row.r put_r old.r_limit may.ranges.r_limit;
       b_limit = kept (λ (x : Number (Unit {0}) 32). unsigned_abs x.mid ≤ 2 ^ 56) (plain (pos 0)) b b' m row.b put_b old.b_limit may.ranges.b_limit;
-      low_bound = kept (λ (x : Option (Number (Unit {0}) 20)). IsTrue (is_low (bound x))) None low low' m row.low put_low old.low_bound may.ranges.low_bound;
-      high_bound = kept (λ (x : Option (Number (Unit {0}) 20)). IsTrue (is_high (bound x))) None high high' m row.high put_high old.high_bound may.ranges.high_bound;
+      low_bound = kept (λ (x : Option (Number (Unit {0}) 20)). IsTrue (is_in_range (bound x))) None low low' m row.low put_low old.low_bound may.ranges.low_bound;
+      high_bound = kept (λ (x : Option (Number (Unit {0}) 20)). IsTrue (is_in_range (bound x))) None high high' m row.high put_high old.high_bound may.ranges.high_bound;
+    }
+
+-- ---- the regularizer of each row is above 0
+pub regular : (d : Dual) → IsRegular (problem d)
+regular d i h = let r : pos 1 ≤ℤ wide_at d.r i = d.rows.regular i h in omega (arith, ints)
+
+-- ---- what a solver asks
+pub solvable-over : (n m : ℕ) (f g : ℕ → ℤ) (d e : ℤ) (low low' high high' : Option ℤ) → n ≡ m → ((k : ℕ) → k < m → f k ≡ g k) → d ≡ e → low ≡ low' → high ≡ high' → IsSolvableRow n f d low high → IsSolvableRow m g e low' high'
+solvable-over n m f g d e low low' high high' width numbers diag lows highs is =
+    record {
+      diagonal = sym diag ∙ is.diagonal ∙ ap (λ a. sum_to a (λ k. f k *ℤ f k)) width ∙ sum_to-ext m (λ k. f k *ℤ f k) (λ k. g k *ℤ g k) (λ k l. ap (λ x. x *ℤ x) (numbers k l));
+      not_idle = subst (λ (a : ℤ). pos (2 ^ 28) ≤ℤ a) diag is.not_idle;
+      diag_limit = subst (λ (a : ℤ). a ≤ℤ pos (2 ^ 72)) diag is.diag_limit;
+      low_bound = subst (λ (a : Option ℤ). IsTrue (is_low a)) lows is.low_bound;
+      high_bound = subst (λ (a : Option ℤ). IsTrue (is_high a)) highs is.high_bound;
+    }
+
+pub solvable-more : (m nv : ℕ) (g g' : List (Number (Unit {0}) 24)) (diag diag' : List (Wide 48)) (low low' high high' : List (Option (Number (Unit {0}) 20))) (numbers : List (Number (Unit {0}) 24)) (row : DualRow)
+    → IsCopied m nv g g' numbers → IsPut diag diag' m row.diag → IsPut low low' m row.low → IsPut high high' m row.high → AreSolvable m nv g diag low high → MayBeSolved nv numbers row → AreSolvable (m + 1) nv g' diag' low' high'
+solvable-more m nv g g' diag diag' low low' high high' numbers row copied put_diag put_low put_high old may =
+    record {
+      each = each (λ a. IsSolvableRow nv (entry_at nv g' a) (wide_at diag' a) (bound_at low' a) (bound_at high' a)) m
+          (λ a q. let other : a ≢ m = λ e. absurd (omega arith) in
+          solvable-over nv nv (entry_at nv g a) (entry_at nv g' a) (wide_at diag a) (wide_at diag' a) (bound_at low a) (bound_at low' a) (bound_at high a) (bound_at high' a) refl
+          (λ k l. sym (entry-before m nv g g' numbers copied a k q l)) (sym (ap (λ x. x.raw) (put_diag.others (record { raw = pos 0 }) a other))) (sym (ap bound (put_low.others None a other))) (sym (ap bound (put_high.others None a other))) (old.each a q))
+          (solvable-over nv nv (number_at numbers) (entry_at nv g' m) row.diag.raw (wide_at diag' m) (bound row.low) (bound_at low' m) (bound row.high) (bound_at high' m) refl
+          (λ k l. sym (copied.here k l)) (sym (ap (λ x. x.raw) (put_diag.same (record { raw = pos 0 })))) (sym (ap bound (put_low.same None))) (sym (ap bound (put_high.same None))) may);
     }

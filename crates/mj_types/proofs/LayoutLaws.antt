@@ -2,7 +2,6 @@
 use Rattle.std.proofs.Common.{◌≡◌, ℕ, zero, suc, ◌+◌, ◌-◌, ◌<◌, ◌≤◌, ◌==◌, List, length, refl, sym, ap, ◌∙◌, arith, inl, inr}
 use Rattle.std.proofs.lemmas.Bool.{cases_lt, cases_eq, eq-eqb, ne_eqb}
 use Rattle.std.proofs.lemmas.List.{get_or_past}
-use Rattle.fx_whole.specs.Sums.{sum_ℕ_to}
 use Rattle.fx_whole.proofs.SumLaws.{sum_ℕ_to-le}
 use Rattle.mj_tree.specs.Tree.{IsTree, IsLayout, at_or_above}
 use Rattle.mj_tree.proofs.BodyLaws.{above_parent, above_itself, not_above}
@@ -10,7 +9,7 @@ use Rattle.mj_types.specs.declared.parts.Body.{Body}
 use Rattle.mj_types.specs.declared.parts.Joint.{Joint}
 use Rattle.mj_types.specs.declared.parts.Dof.{Dof}
 use Rattle.mj_types.specs.Parts.{body, no_body, joint, dof, velocity_count, parent_of, first_dof, body_of}
-use Rattle.mj_types.specs.Lawful.{AreBodies, AreJoints, AreDofs, IsDof, velocities_before}
+use Rattle.mj_types.specs.Lawful.{AreBodies, AreJoints, AreDofs, velocities_before}
 
 pub is_tree : (bodies : List Body) → AreBodies bodies → IsTree (parent_of bodies)
 is_tree bodies h = record { world = refl; before = before }

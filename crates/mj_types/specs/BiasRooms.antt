@@ -1,5 +1,5 @@
 -- Which bias forces are made for a model.
-use Rattle.std.specs.Prelude.{◌≡◌, ℕ, suc, length}
+use Rattle.std.specs.Prelude.{◌≡◌, suc, length}
 use Rattle.mj_types.specs.declared.model.Model.{Model}
 use Rattle.mj_types.specs.declared.bias.Bias.{Bias}
 

@@ -1,5 +1,5 @@
 -- What every accepted model keeps: its numbers are within the limits of the model format, what is named is there, and places follow from the order of bodies and joints.
-use Rattle.std.specs.Prelude.{◌≡◌, ◌≢◌, ℕ, suc, ◌+◌, ◌-◌, ◌^◌, ◌<◌, ◌≤◌, ◌==◌, Bool, true, false, not, ◌&&◌, ◌||◌, cond, nat_le, nat_lt, ℤ, pos, ◌<ℤ◌, ◌≤ℤ◌, int_le, unsigned_abs, IsTrue, List, length, Option, Some, None}
+use Rattle.std.specs.Prelude.{◌≡◌, ◌≢◌, ℕ, suc, ◌+◌, ◌-◌, ◌^◌, ◌<◌, ◌≤◌, ◌==◌, Bool, true, false, not, ◌&&◌, ◌||◌, cond, nat_le, nat_lt, pos, ◌<ℤ◌, ◌≤ℤ◌, int_le, unsigned_abs, IsTrue, List, length, Option, Some, None}
 use Rattle.fx_whole.specs.Sums.{sum_ℕ_to}
 use Rattle.fx_num.specs.declared.number.Number.{Number}
 use Rattle.fx_vec.specs.Sizes.{Within}
@@ -16,13 +16,12 @@ use Rattle.mj_types.specs.declared.parts.GeomKind.{GeomKind}
 use Rattle.mj_types.specs.declared.parts.GeomKind.TheVariants as geom_kind
 use Rattle.mj_types.specs.declared.parts.Dof.{Dof}
 use Rattle.mj_types.specs.declared.parts.Geom.{Geom}
-use Rattle.mj_types.specs.declared.parts.Term.{Term}
 use Rattle.mj_types.specs.declared.parts.Tendon.{Tendon}
 use Rattle.mj_types.specs.declared.parts.Drive.{Drive}
 use Rattle.mj_types.specs.declared.parts.Drive.TheVariants as drive
 use Rattle.mj_types.specs.declared.parts.Motor.{Motor}
 use Rattle.mj_types.specs.declared.parts.Equality.{Equality}
-use Rattle.mj_types.specs.Parts.{body, joint, dof, geom, term, tendon, motor, equality, number_at, position_count, velocity_count, first_part, parent_of, first_dof, body_of}
+use Rattle.mj_types.specs.Parts.{body, joint, dof, geom, term, tendon, motor, equality, number_at, position_count, velocity_count, first_part}
 
 -- ---- single numbers
 -- at most `limit` in size

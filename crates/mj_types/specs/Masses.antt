@@ -1,5 +1,5 @@
 -- What a mass matrix holds, as a function of two dofs, and what later parts of a step rely on.
-use Rattle.std.specs.Prelude.{◌≡◌, ℕ, ◌+◌, ◌*◌, ◌^◌, ◌<◌, ◌≤◌, Bool, false, ℤ, pos, unsigned_abs, List, length, slice_index_or}
+use Rattle.std.specs.Prelude.{◌≡◌, ℕ, ◌+◌, ◌*◌, ◌^◌, ◌<◌, ◌≤◌, false, ℤ, pos, unsigned_abs, List, length, slice_index_or}
 use Rattle.fx_num.specs.declared.number.Number.{Number}
 use Rattle.mj_types.specs.declared.carriers.Mass.{Mass}
 use Rattle.mj_types.specs.declared.model.Model.{Model}

@@ -1,5 +1,5 @@
 -- The parts of a model as functions of a place, from 0: what stands past the end of a list has no parent and no size.
-use Rattle.std.specs.Prelude.{ℕ, zero, suc, ◌+◌, ◌==◌, ◌∷◌, cond, ℤ, pos, List, [], Option, Some, None, slice_index_or}
+use Rattle.std.specs.Prelude.{ℕ, zero, suc, ℤ, pos, List, [], None, slice_index_or}
 use Rattle.fx_num.specs.declared.number.Number.{Number}
 use Rattle.fx_vec.specs.declared.vector.Vector3.{Vector3}
 use Rattle.fx_vec.specs.declared.vector.Vector6.{Vector6}
@@ -10,13 +10,11 @@ use Rattle.mj_types.specs.declared.parts.Body.{Body}
 use Rattle.mj_types.specs.declared.parts.Joint.{Joint}
 use Rattle.mj_types.specs.declared.parts.JointKind.{JointKind}
 use Rattle.mj_types.specs.declared.parts.JointKind.TheVariants as joint_kind
-use Rattle.mj_types.specs.declared.parts.GeomKind.{GeomKind}
 use Rattle.mj_types.specs.declared.parts.GeomKind.TheVariants as geom_kind
 use Rattle.mj_types.specs.declared.parts.Dof.{Dof}
 use Rattle.mj_types.specs.declared.parts.Geom.{Geom}
 use Rattle.mj_types.specs.declared.parts.Term.{Term}
 use Rattle.mj_types.specs.declared.parts.Tendon.{Tendon}
-use Rattle.mj_types.specs.declared.parts.Drive.{Drive}
 use Rattle.mj_types.specs.declared.parts.Drive.TheVariants as drive
 use Rattle.mj_types.specs.declared.parts.Motor.{Motor}
 use Rattle.mj_types.specs.declared.parts.Equality.{Equality}

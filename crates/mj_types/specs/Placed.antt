@@ -1,6 +1,5 @@
 -- What frames hold, as functions of a place, and the ranges that later parts of a step rely on.
 use Rattle.std.specs.Prelude.{ℕ, ◌^◌, ◌<◌, ◌≤◌, ℤ, unsigned_abs, List, length, slice_index_or}
-use Rattle.fx_num.specs.declared.number.Number.{Number}
 use Rattle.fx_vec.specs.Vectors.{Triple}
 use Rattle.fx_vec.specs.Spatial.{Spatial, Inertia}
 use Rattle.fx_vec.specs.Quaternions.{Quaternion, quaternion}

@@ -4,11 +4,15 @@ use Rattle.mj_optimum.specs.Problem.{Problem}
 use Rattle.mj_types.specs.declared.dual.Dual.{Dual}
 use Rattle.mj_types.specs.declared.dual.Forces.{Forces}
 use Rattle.mj_types.specs.declared.dual.Cert.{Cert}
-use Rattle.mj_types.specs.Duals.{problem_of}
+use Rattle.mj_types.specs.Duals.{AreSolvable, problem_of}
 use Rattle.mj_types.specs.Parts.{number_at}
 
 abbrev pub problem : Dual → Problem
 problem d = problem_of d.m d.nv d.g d.r d.b d.low d.high
+
+-- what a solver asks of it
+abbrev pub IsSolvable : Dual → Type 0
+IsSolvable d = AreSolvable d.m d.nv d.g d.diag d.low d.high
 
 -- the number of row i in the list of rows
 abbrev pub place : Dual → ℕ → ℕ

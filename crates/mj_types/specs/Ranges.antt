@@ -1,5 +1,5 @@
 -- The kinds of number that a step makes within a range, and the list of ranges: a row of checks, whose first fault is the first number out of range.
-use Rattle.std.specs.Prelude.{ℕ, ◌-◌, ◌^◌, List, codes, Bool, ◌&&◌, cond, Option, Some, None, ℤ, int_le, nat_le, unsigned_abs}
+use Rattle.std.specs.Prelude.{ℕ, ◌-◌, List, codes, Bool, ◌&&◌, cond, Option, Some, None, ℤ, int_le, nat_le, unsigned_abs}
 use Rattle.fx_whole.specs.First.{first_to}
 use Rattle.fx_num.specs.declared.carry.Over.{Over}
 use Rattle.fx_num.specs.declared.carry.Over.TheVariants.{Value, Radius}

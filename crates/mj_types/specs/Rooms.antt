@@ -1,5 +1,5 @@
 -- Which carriers are made for a model: their lists have the lengths of its bodies, dofs, geoms, joints, tendons or rows.
-use Rattle.std.specs.Prelude.{◌≡◌, ℕ, ◌*◌, length}
+use Rattle.std.specs.Prelude.{◌≡◌, ◌*◌, length}
 use Rattle.mj_types.specs.declared.model.Model.{Model}
 use Rattle.mj_types.specs.declared.carriers.Frames.{Frames}
 use Rattle.mj_types.specs.declared.carriers.Composite.{Composite}

@@ -1,5 +1,5 @@
 -- Which rows and reports are made for a model.
-use Rattle.std.specs.Prelude.{◌≡◌, ℕ, ◌*◌, length}
+use Rattle.std.specs.Prelude.{◌≡◌, ◌*◌, length}
 use Rattle.mj_types.specs.declared.model.Model.{Model}
 use Rattle.mj_types.specs.declared.rows.Rows.{Rows}
 use Rattle.mj_types.specs.declared.rows.StepReport.{StepReport}

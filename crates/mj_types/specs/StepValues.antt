@@ -1,5 +1,5 @@
 -- What one step makes, as functions of a place: the new state and what a report tells; and the dual that it solves. MuJoCo documentation, Computation chapter.
-use Rattle.std.specs.Prelude.{ℕ, Bool, true, not, ℤ, pos, List, Option, None, length, slice_index_or}
+use Rattle.std.specs.Prelude.{ℕ, Bool, true, not, ℤ, pos, List, None, length, slice_index_or}
 use Rattle.fx_whole.specs.Counting.{count_to}
 use Rattle.fx_whole.specs.Entries.{below}
 use Rattle.mj_optimum.specs.Problem.{Problem}

@@ -13,7 +13,7 @@ use std::alloc::Global;
 /// Where everything is in a state: the position and the orientation of each body and its centre of
 /// mass, its inertia about its tree's reference point, the motion column of each dof, and the position
 /// and the orientation of each geom. `anchor` and `axis` of each joint are working room.
-#[derive(Debug, Drop)]
+#[derive(Drop)]
 pub struct Frames {
     pub pos: Array<V3<Plain, 32>>,
     pub quat: Array<Q4>,
@@ -27,13 +27,13 @@ pub struct Frames {
 }
 
 /// For each body, the inertia of that body and all bodies below it together.
-#[derive(Debug, Drop)]
+#[derive(Drop)]
 pub struct Composite {
     pub list: Array<Inertia10>,
 }
 
 /// The mass matrix in the space of dofs, with radii: row after row, `nv` numbers a row.
-#[derive(Debug, Drop)]
+#[derive(Drop)]
 pub struct Mass {
     pub m: Array<Near<40>>,
 }
@@ -41,7 +41,7 @@ pub struct Mass {
 /// The mass matrix factored as `M = L^T D L` over listed entries alone (Featherstone, Rigid Body
 /// Dynamics Algorithms, chapter 6). From `at[k - 1]` up to but not including `at[k]`, `above` lists the
 /// dofs above dof k in ascending order, and `w` and `l` have their entries there.
-#[derive(Debug, Drop)]
+#[derive(Drop)]
 pub struct Factor {
     pub at: Array<usize>,
     pub above: Array<usize>,
@@ -51,7 +51,7 @@ pub struct Factor {
 }
 
 /// The force that is applied at each dof, and the length of each tendon and its rate.
-#[derive(Debug, Drop)]
+#[derive(Drop)]
 pub struct Applied {
     pub tau: Array<Fix<32>>,
     pub length: Array<Fix<32>>,
@@ -60,7 +60,7 @@ pub struct Applied {
 
 /// Two geoms that touch: `a` and `b` are their numbers, the normal points from `a` to `b`, and a
 /// negative distance is how deep they are in one another.
-#[derive(Clone, Copy, Debug, PartialEq, Eq)]
+#[derive(Clone, Copy)]
 pub struct Contact {
     pub a: usize,
     pub b: usize,
@@ -72,7 +72,7 @@ pub struct Contact {
 }
 
 /// The contacts of a state, at most `njmax`.
-#[derive(Debug, Drop)]
+#[derive(Drop)]
 pub struct Contacts {
     pub list: Listing<Contact>,
 }
@@ -84,17 +84,43 @@ impl Frames {
     pub fn new(alloc: Global, model: &Model) -> Result<Frames, NoMemory>
         ensures room { IfOk result (λ f. spec.FramesRoom model.now f) }
     {
-        Ok(Frames {
-            pos: filled(alloc, model.bodies.len(), no_vector())?,
-            quat: filled(alloc, model.bodies.len(), unturned())?,
-            com: filled(alloc, model.bodies.len(), no_vector())?,
-            inertia: filled(alloc, model.bodies.len(), no_inertia())?,
-            column: filled(alloc, model.nv, no_motion())?,
-            gpos: filled(alloc, model.geoms.len(), no_vector())?,
-            gquat: filled(alloc, model.geoms.len(), unturned())?,
-            anchor: filled(alloc, model.joints.len(), no_vector())?,
-            axis: filled(alloc, model.joints.len(), no_vector())?,
-        })
+        let (bodies, geoms, joints) = (model.bodies.len(), model.geoms.len(), model.joints.len());
+        // One match over all results: after a `?` for each list, each later one would have to free the
+        // lists before it.
+        match (
+            filled(alloc, bodies, no_vector()),
+            filled(alloc, bodies, unturned()),
+            filled(alloc, bodies, no_vector()),
+            filled(alloc, bodies, no_inertia()),
+            filled(alloc, model.nv, no_motion()),
+            filled(alloc, geoms, no_vector()),
+            filled(alloc, geoms, unturned()),
+            filled(alloc, joints, no_vector()),
+            filled(alloc, joints, no_vector()),
+        ) {
+            (
+                Ok(pos),
+                Ok(quat),
+                Ok(com),
+                Ok(inertia),
+                Ok(column),
+                Ok(gpos),
+                Ok(gquat),
+                Ok(anchor),
+                Ok(axis),
+            ) => Ok(Frames {
+                pos,
+                quat,
+                com,
+                inertia,
+                column,
+                gpos,
+                gquat,
+                anchor,
+                axis,
+            }),
+            _ => Err(NoMemory),
+        }
     }
 }
 

@@ -2,7 +2,7 @@
 ghost use Rattle.std.specs.Prelude.{◌≡◌, ◌+◌, ◌*◌, ◌^◌, ◌<◌, ◌≤◌, ◌+ℤ◌, ◌*ℤ◌, unsigned_abs, ℕ, length, slice_set, IfOk, IsTrue};
 ghost use Rattle.fx_whole.specs.Sums.{sum_to};
 ghost use Rattle.mj_types.specs.Duals as duals;
-ghost use Rattle.mj_types.specs.Duals.{AreRows, MayBeRow, IsWithinRanges, entry_at};
+ghost use Rattle.mj_types.specs.Duals.{AreRows, IsSolvableRow, MayBeRow, MayBeSolved, IsWithinRanges, bound, bound_at, entry_at, wide_at};
 ghost use Rattle.mj_types.specs.Parts.{number_at};
 
 use crate::NoMemory;
@@ -17,7 +17,7 @@ use std::alloc::Global;
 /// `1/2 f (A + R) f + f b` with `A = G G^T`, each within its bounds (MuJoCo documentation,
 /// Computation). `m` rows are in use; `g` is row after row, `nv` numbers a row; `diag` is the diagonal
 /// of `A`; `place` is each row's number in the list of rows. A bound may be missing.
-#[derive(Debug, Drop)]
+#[derive(Drop)]
 pub struct Dual {
     pub m: usize,
     pub nv: usize,
@@ -32,7 +32,7 @@ pub struct Dual {
 }
 
 /// What a dual holds of one row beside its numbers of `G`.
-#[derive(Clone, Copy, Debug)]
+#[derive(Clone, Copy)]
 pub struct DualRow {
     pub place: usize,
     pub diag: Wide<48>,
@@ -45,7 +45,7 @@ pub struct DualRow {
 /// Forces of a dual's rows, and `u = G^T f`. `divisor` and `used` are a solver's working room: what it
 /// divides each row's gradient by, and how many of the row's numbers there are up to the last that
 /// isn't 0.
-#[derive(Debug, Drop)]
+#[derive(Drop)]
 pub struct Forces {
     pub f: Array<Fix<20>>,
     pub u: Array<Fix<44>>,
@@ -56,7 +56,7 @@ pub struct Forces {
 /// What a certificate says: twice the cost of the forces, a number that no feasible force's is below,
 /// both at 2^-88, and for each row the ends of a box that holds every feasible force that costs no more.
 /// `slope` and `depth` are working room: each row's gradient and its shortfall.
-#[derive(Debug, Drop)]
+#[derive(Drop)]
 pub struct Cert {
     pub cost2: i128,
     pub bound2: i128,
@@ -84,17 +84,28 @@ impl Dual {
         ensures room { IfOk result (λ d. spec.HasRoom rows nv d) }
         ensures empty { IfOk result (λ d. d.m ≡ 0) }
     {
-        Ok(Dual {
-            m: 0,
-            nv,
-            place: filled(alloc, rows, 0)?,
-            g: zeros(alloc, rows * nv)?,
-            diag: filled(alloc, rows, Wide { raw: 0 })?,
-            r: filled(alloc, rows, Wide { raw: 0 })?,
-            b: zeros(alloc, rows)?,
-            low: filled(alloc, rows, None)?,
-            high: filled(alloc, rows, None)?,
-        })
+        match (
+            filled(alloc, rows, 0),
+            zeros(alloc, rows * nv),
+            filled(alloc, rows, Wide { raw: 0 }),
+            filled(alloc, rows, Wide { raw: 0 }),
+            zeros(alloc, rows),
+            filled(alloc, rows, None),
+            filled(alloc, rows, None),
+        ) {
+            (Ok(place), Ok(g), Ok(diag), Ok(r), Ok(b), Ok(low), Ok(high)) => Ok(Dual {
+                m: 0,
+                nv,
+                place,
+                g,
+                diag,
+                r,
+                b,
+                low,
+                high,
+            }),
+            _ => Err(NoMemory),
+        }
     }
 
     /// Row `i` of `G`.
@@ -109,7 +120,8 @@ impl Dual {
 
     /// Whether there is room for one row more.
     pub fn has_spare(&self) -> bool
-        ensures { IsTrue result → spec.HasSpare self.now }
+        ensures room { IsTrue result → spec.HasSpare self.now }
+        ensures no_room { spec.HasSpare self.now → IsTrue result }
     {
         let next = self.m + 1;
         next <= 1024
@@ -120,6 +132,32 @@ impl Dual {
             && next <= self.b.len()
             && next <= self.low.len()
             && next <= self.high.len()
+    }
+
+    /// Whether a solver may take it: the diagonal is that of `G G^T`, and 0 is within the bounds.
+    pub fn is_solvable(&self) -> bool
+        ensures { IsTrue result → spec.IsSolvable self.now }
+    {
+        for i in 0..self.m {
+            if !self.is_solvable_at(i) {
+                return false;
+            }
+        }
+        true
+    }
+
+    // Whether it may take row i.
+    fn is_solvable_at(&self, i: usize) -> bool
+        requires { i < self.now.m }
+        ensures { IsTrue result → IsSolvableRow self.now.nv (entry_at self.now.nv self.now.g i)
+            (wide_at self.now.diag i) (bound_at self.now.low i) (bound_at self.now.high i) }
+    {
+        is_solvable_row(
+            self.row(i),
+            self.diag.at(i),
+            self.low.at(i),
+            self.high.at(i),
+        )
     }
 
     /// Takes all rows out. The room stays.
@@ -146,6 +184,8 @@ impl Dual {
         ensures b { self.new.b ≡ slice_set self.old.b self.old.m row.b }
         ensures low { self.new.low ≡ slice_set self.old.low self.old.m row.low }
         ensures high { self.new.high ≡ slice_set self.old.high self.old.m row.high }
+        ensures solvable { spec.IsSolvable self.old → MayBeSolved self.old.nv numbers.now row
+            → spec.IsSolvable self.new }
     {
         let i = self.m;
         copy_into(&mut self.g, i * self.nv, numbers);
@@ -163,25 +203,32 @@ impl DualRow {
     /// Whether a dual of so many dofs may hold this row with these numbers of `G`.
     pub fn is_lawful(&self, numbers: &[Fix<24>], nv: usize) -> bool
         requires { nv ≤ 64 }
-        ensures { IsTrue result → MayBeRow nv numbers.now self.now }
+        ensures lawful { IsTrue result → MayBeRow nv numbers.now self.now }
+        ensures unlawful { MayBeRow nv numbers.now self.now → IsTrue result }
     {
-        if numbers.len() != nv || !are_small(numbers) {
-            return false;
-        }
-        self.diag.raw == squares(numbers).raw && self.is_within()
+        numbers.len() == nv && are_small(numbers) && self.is_within()
     }
 
     // Whether its own numbers are within their ranges.
     fn is_within(&self) -> bool
-        ensures { IsTrue result → IsWithinRanges self.now }
+        ensures within { IsTrue result → IsWithinRanges self.now }
+        ensures past { IsWithinRanges self.now → IsTrue result }
     {
-        self.diag.raw >= 1 << 28
-            && self.diag.raw <= 1 << 72
-            && self.r.raw >= 1
+        self.r.raw >= 1
             && self.r.raw <= 1 << 72
             && self.b.mid.unsigned_abs() <= 1 << 56
-            && is_low(self.low)
-            && is_high(self.high)
+            && is_in_range(self.low)
+            && is_in_range(self.high)
+    }
+}
+
+// Whether a bound is not past 2^30.
+fn is_in_range(bound: Option<Fix<20>>) -> bool
+    ensures { result ≡ duals.is_in_range (duals.bound bound) }
+{
+    match bound {
+        Some(x) => x.mid.unsigned_abs() <= 1 << 50,
+        None => true,
     }
 }
 
@@ -207,8 +254,10 @@ fn is_high(bound: Option<Fix<20>>) -> bool
 
 // Whether each number is at most 2^20 in size.
 fn are_small(numbers: &[Fix<24>]) -> bool
-    ensures { IsTrue result → (k : ℕ) → k < length numbers.now
+    ensures small { IsTrue result → (k : ℕ) → k < length numbers.now
         → unsigned_abs (number_at numbers.now k) ≤ 2 ^ 44 }
+    ensures large { ((k : ℕ) → k < length numbers.now
+        → unsigned_abs (number_at numbers.now k) ≤ 2 ^ 44) → IsTrue result }
 {
     for k in 0..numbers.len() {
         if numbers[k].mid.unsigned_abs() > 1 << 44 {
@@ -216,6 +265,26 @@ fn are_small(numbers: &[Fix<24>]) -> bool
         }
     }
     true
+}
+
+// Whether a solver may take a row of these numbers.
+fn is_solvable_row(
+    numbers: &[Fix<24>],
+    diag: Wide<48>,
+    low: Option<Fix<20>>,
+    high: Option<Fix<20>>,
+) -> bool
+    requires few { length numbers.now ≤ 64 }
+    requires small { (k : ℕ) → k < length numbers.now
+        → unsigned_abs (number_at numbers.now k) ≤ 2 ^ 44 }
+    ensures { IsTrue result → IsSolvableRow (length numbers.now) (number_at numbers.now)
+        diag.raw (bound low) (bound high) }
+{
+    diag.raw == squares(numbers).raw
+        && diag.raw >= 1 << 28
+        && diag.raw <= 1 << 72
+        && is_low(low)
+        && is_high(high)
 }
 
 // The sum of their squares.

@@ -13,8 +13,6 @@ pub mod rows;
 pub mod state;
 pub mod status;
 pub mod tape;
-#[cfg(test)]
-mod tests;
 mod tree;
 
 pub use bias::Bias;

@@ -21,7 +21,7 @@ use fx_vec::V3;
 /// `njmax` rows stand in a step. Bodies, joints and geoms are in the order of the file, the world's
 /// geoms first. `qpos0` and `qvel0` are the state that a run starts from. What each list keeps is said
 /// by its ghost field.
-#[derive(Debug, Drop)]
+#[derive(Drop)]
 pub struct Model {
     pub format: u32,
     pub h: Fix<32>,

@@ -6,7 +6,7 @@ use fx_vec::{Q4, V3};
 
 /// How soft a constraint is (MuJoCo documentation, Computation, solver parameters): `tc` and `dr` are
 /// solref's two numbers, `dmin`, `dmax`, `width`, `mid` and `power` those of solimp.
-#[derive(Clone, Copy, Debug, PartialEq, Eq)]
+#[derive(Clone, Copy)]
 pub struct Soft {
     pub tc: Fix<32>,
     pub dr: Fix<32>,
@@ -19,7 +19,7 @@ pub struct Soft {
 
 /// The least and the greatest number that is taken: of a joint's position, a tendon's length or a
 /// motor's control. The least is below the greatest.
-#[derive(Clone, Copy, Debug, PartialEq, Eq)]
+#[derive(Clone, Copy)]
 pub struct Range {
     pub least: Fix<32>,
     pub greatest: Fix<32>,
@@ -44,7 +44,7 @@ pub enum GeomKind {
 /// A rigid body. `parent` is its parent's number, `root` that of its tree's root body. `pos` and `quat`
 /// place it in its parent's frame, `ipos` and `iquat` its inertial frame in its own. Its joints are
 /// the `jntnum` joints from the place `jntadr`, its dofs the `dofnum` from the place `dofadr`.
-#[derive(Clone, Copy, Debug, PartialEq, Eq)]
+#[derive(Clone, Copy)]
 pub struct Body {
     pub parent: usize,
     pub root: usize,
@@ -63,7 +63,7 @@ pub struct Body {
 }
 
 /// A joint of a body. Its positions begin at the place `qadr` of a state's, its velocities at `dadr`.
-#[derive(Clone, Copy, Debug, PartialEq, Eq)]
+#[derive(Clone, Copy)]
 pub struct Joint {
     pub kind: JointKind,
     pub body: usize,
@@ -85,7 +85,7 @@ pub struct Joint {
 /// One velocity of a model: it is velocity `part`, from 0, of a joint, which is on `body`. `base` is
 /// the place of the first dof that turns or moves together with it: of its joint, and for a rotation
 /// of a free joint that of the first rotation.
-#[derive(Clone, Copy, Debug, PartialEq, Eq)]
+#[derive(Clone, Copy)]
 pub struct Dof {
     pub joint: usize,
     pub part: usize,
@@ -94,7 +94,7 @@ pub struct Dof {
 }
 
 /// A shape that touches others. A capsule's axis is its own z axis, and `half` is half its length.
-#[derive(Clone, Copy, Debug, PartialEq, Eq)]
+#[derive(Clone, Copy)]
 pub struct Geom {
     pub kind: GeomKind,
     pub body: usize,
@@ -111,14 +111,14 @@ pub struct Geom {
 }
 
 /// A joint's part in a fixed tendon's length.
-#[derive(Clone, Copy, Debug, PartialEq, Eq)]
+#[derive(Clone, Copy)]
 pub struct Term {
     pub joint: usize,
     pub coef: Fix<32>,
 }
 
 /// A fixed tendon: its length is the sum of its terms' coefficients times their joints' positions.
-#[derive(Debug, Drop)]
+#[derive(Drop)]
 pub struct Tendon {
     pub terms: Array<Term>,
     pub range: Option<Range>,
@@ -137,7 +137,7 @@ pub enum Drive {
 }
 
 /// A motor: its force is the control, clamped to the range where there is one, times the gear.
-#[derive(Clone, Copy, Debug, PartialEq, Eq)]
+#[derive(Clone, Copy)]
 pub struct Motor {
     pub drive: Drive,
     pub gear: Fix<32>,
@@ -145,7 +145,7 @@ pub struct Motor {
 }
 
 /// An equality of joints: joint 1's position is `c0`, and `c1` times joint 2's more where there is one.
-#[derive(Clone, Copy, Debug, PartialEq, Eq)]
+#[derive(Clone, Copy)]
 pub struct Equality {
     pub joint1: usize,
     pub joint2: Option<usize>,

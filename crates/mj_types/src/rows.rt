@@ -26,7 +26,7 @@ pub enum Source {
 
 /// A constraint row: how far it is violated, how soft it is, the bounds of its force, each of which
 /// may be missing, and whether it is idle: no dof moves it, so that it is left out of the dual.
-#[derive(Clone, Copy, Debug, PartialEq, Eq)]
+#[derive(Clone, Copy)]
 pub struct Row {
     pub source: Source,
     pub r: Fix<32>,
@@ -38,7 +38,7 @@ pub struct Row {
 
 /// The rows of a state in their order, at most `njmax`, and their Jacobians: row after row, `nv` numbers
 /// a row. `row` and `reduced` are working room for one row.
-#[derive(Debug, Drop)]
+#[derive(Drop)]
 pub struct Rows {
     pub list: Listing<Row>,
     pub jac: Listing<Fix<32>>,
@@ -49,7 +49,7 @@ pub struct Rows {
 /// What a step did: its acceleration and how exactly it solves the equations of motion, the largest
 /// radius of the mass matrix's entries and of the bias forces, and the rows, of which there are
 /// `count`, with their forces and the certificate.
-#[derive(Debug, Drop)]
+#[derive(Drop)]
 pub struct StepReport {
     pub format: u32,
     pub accel: Array<Fix<32>>,

@@ -10,7 +10,7 @@ use std::alloc::Global;
 
 /// Positions and velocities, in the order of joints. A free joint has its position and then its
 /// quaternion, and its linear velocity (world axes) and then its angular velocity (body axes).
-#[derive(Debug, Drop)]
+#[derive(Drop)]
 pub struct State {
     pub q: Array<Fix<32>>,
     pub v: Array<Fix<32>>,

@@ -13,7 +13,6 @@ pub enum ModelCode {
     TooLarge,
     /// The file is no TOML document.
     NotToml,
-    /// A model of a form that isn't built yet.
     /// A key that its table doesn't have.
     UnknownKey,
     /// A required key isn't there.

@@ -13,7 +13,8 @@ use Rattle.fx_vec.specs.Vectors.{Triple}
 use Rattle.fx_vec.specs.declared.vector.Vector3.{Vector3}
 use Rattle.fx_vec.specs.declared.vector.Q4.{Q4}
 use Rattle.mj_quat.specs.Rotation.{quaternion_length, vector_length, unit_quaternion, unit_vector}
-use Rattle.mj_quat.proofs.LengthLaws.{over-le, quaternion_covered, vector_covered}
+use Rattle.fx_num.proofs.RatioLaws.{over-le}
+use Rattle.mj_quat.proofs.LengthLaws.{quaternion_covered, vector_covered}
 use Rattle.mj_types.specs.declared.parts.Range.{Range}
 use Rattle.mj_types.specs.declared.parts.Soft.{Soft}
 use Rattle.mj_types.specs.declared.parts.JointKind.{JointKind}

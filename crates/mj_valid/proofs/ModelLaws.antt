@@ -39,6 +39,3 @@ laid-out parts world l p w few e = subst (IsLaid parts) (sym e) (laid parts worl
 pub few-qadr : (parts : List BodyParts) (l : Layout) → IsLaid parts l → (j : ℕ) → j < length l.joints → (joint l.joints j).qadr ≤ 512
 few-qadr parts l h j m =
     omega (arith, h.joints_.qadr j m, h.joints_.positions, h.joints_.few_positions, sum_ℕ_to-le j (length l.joints) (λ i. position_count (joint l.joints i).kind) (omega (arith, m)))
-
-pub is-laid_out : (parts : List BodyParts) → AreParted parts → length (joints_on parts) ≤ 64 → IsLaidOut parts
-is-laid_out parts p few = record { parents = λ b l. (p.each b l).parent; few = p.few; few_joints = few }

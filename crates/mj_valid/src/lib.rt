@@ -3,8 +3,6 @@
 
 pub mod judging;
 mod start;
-#[cfg(test)]
-mod tests;
 mod walked;
 
 pub use judging::{judge, model};

@@ -18,7 +18,7 @@ use mj_types::{Body, Geom, Joint, ModelFault};
 use std::alloc::Global;
 
 /// A body's mass, the place and the axes of its inertia, and the inertia about these.
-#[derive(Clone, Copy, Debug, PartialEq, Eq)]
+#[derive(Clone, Copy)]
 pub struct Inertia {
     pub pos: V3<Plain, 32>,
     pub quat: Q4,

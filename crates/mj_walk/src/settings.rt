@@ -15,7 +15,7 @@ use std::alloc::Global;
 
 /// The options of a model: the time step, gravity, the solver's iterations and tolerance, and how many
 /// rows a step may have.
-#[derive(Clone, Copy, Debug, PartialEq, Eq)]
+#[derive(Clone, Copy)]
 pub struct Settings {
     pub h: Fix<32>,
     pub gravity: V3<Plain, 32>,

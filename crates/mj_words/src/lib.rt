@@ -3,8 +3,6 @@
 
 mod numbers;
 pub mod table;
-#[cfg(test)]
-mod tests;
 pub mod words;
 
 pub use table::{Command, Name};

@@ -10,5 +10,5 @@ pub returns-clause-linear : goal.returns-clause-linear
 returns-clause-linear g c m n h k =
     let a = mids c.args.a.now in
     let b = mids c.args.b.now in
-    let e = same3 (record { x = c.subtract_one.result.mid; y = c.subtract_one-2.result.mid; z = c.subtract_one-3.result.mid }) (minus a b) c.subtract_one.ensures c.subtract_one-2.ensures c.subtract_one-3.ensures in
+    let e = same3 (record { x = c.subtract.result.mid; y = c.subtract-2.result.mid; z = c.subtract-3.result.mid }) (minus a b) c.subtract.ensures.value c.subtract-2.ensures.value c.subtract-3.ensures.value in
     subst (λ v. Within v (m + n)) (sym e) (minus-within a b m n h k)

@@ -12,10 +12,10 @@ by_value v n k h t x y z i j = subst (λ u. Within u (t * h)) (sym (same3 v (str
 
 pub returns-clause-size : goal.returns-clause-size
 returns-clause-size c =
-    by_value (record { x = c.stretch_one.result.mid; y = c.stretch_one-2.result.mid; z = c.stretch_one-3.result.mid }) (mids c.args.n.now) c.args.k.now.mid (2 ^ 59) 4
-    c.stretch_one.ensures c.stretch_one-2.ensures c.stretch_one-3.ensures c.requires.n c.requires.k
+    by_value (record { x = c.rounded_product.result.mid; y = c.rounded_product-2.result.mid; z = c.rounded_product-3.result.mid }) (mids c.args.n.now) c.args.k.now.mid (2 ^ 59) 4
+    c.rounded_product.ensures.value c.rounded_product-2.ensures.value c.rounded_product-3.ensures.value c.requires.n c.requires.k
 
 pub returns-clause-linear : goal.returns-clause-linear
 returns-clause-linear c h i j =
-    by_value (record { x = c.stretch_one.result.mid; y = c.stretch_one-2.result.mid; z = c.stretch_one-3.result.mid }) (mids c.args.n.now) c.args.k.now.mid h 2
-    c.stretch_one.ensures c.stretch_one-2.ensures c.stretch_one-3.ensures i j
+    by_value (record { x = c.rounded_product.result.mid; y = c.rounded_product-2.result.mid; z = c.rounded_product-3.result.mid }) (mids c.args.n.now) c.args.k.now.mid h 2
+    c.rounded_product.ensures.value c.rounded_product-2.ensures.value c.rounded_product-3.ensures.value i j

@@ -5,9 +5,10 @@ use Rattle.fx_whole.proofs.FirstLaws.{stop_here, pass_more, pass_all}
 use Rattle.fx_vec.specs.Spatial.{Inertia}
 use Rattle.fx_vec.specs.Views.{mids, inertia}
 use Rattle.mj_types.specs.declared.range.OutOfRange.{OutOfRange}
-use Rattle.mj_types.specs.Parts.{no_inertia}
+use Rattle.mj_types.specs.Parts.{body, no_inertia}
 use Rattle.mj_types.specs.Placed.{inertia_at}
-use Rattle.mj_bias.specs.Measures.{Measured, totals, no_measure, totals_at, IsWithin}
+use Rattle.mj_bias.specs.Carried.{IsVelocity}
+use Rattle.mj_bias.specs.Measures.{Measured, totals, no_measure, numbers_at, totals_at, IsWithin}
 use Rattle.mj_bias.specs.Steps.{body_wrench_there, body_fault_there}
 use Rattle.mj_bias.proofs.SeenLaws.{seen-read, seen-same, seen-other}
 use Rattle.mj_bias.proofs.bodies.weigh_bodies.Goals as goal
@@ -29,6 +30,12 @@ body_wrench-requires-clause-drift g c =
     subst (λ (s : Measured). IsWithin s (2 ^ 110) (2 ^ 100))
     (seen-read (totals g.K.Carry.wide_width) no_measure c.args.drift.now (c.loop-b.b + 1) c.entry-in-loop-b-2.result.now (omega (arith, c.requires.drift)) c.entry-in-loop-b-2.ensures)
     (c.requires.drifts (c.loop-b.b + 1) (omega arith))
+
+pub body_wrench-requires-clause-shared : goal.body_wrench-requires-clause-shared
+body_wrench-requires-clause-shared g c = λ h.
+    subst (λ (s : Measured). IsVelocity g.K.Carry.settled s (numbers_at g.K.Carry.width c.args.turn.now (body c.args.model.now.bodies (c.loop-b.b + 1)).dofadr))
+    (seen-read (totals g.K.Carry.wide_width) no_measure c.args.motion.now (c.loop-b.b + 1) c.entry-in-loop-b.result.now (omega (arith, c.requires.motion)) c.entry-in-loop-b.ensures)
+    (c.requires.shared (c.loop-b.b + 1) h)
 
 pub loop-b-preserved : goal.loop-b-preserved
 loop-b-preserved g c =

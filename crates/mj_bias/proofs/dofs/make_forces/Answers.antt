@@ -1,12 +1,15 @@
 use Rattle.std.proofs.Common.{◌≡◌, ℕ, ℤ, ◌^◌, ◌<◌, Option, length, refl, sym, ap, ap₂, ◌∙◌, subst, arith}
 use Rattle.std.proofs.lemmas.Result.{err_from_is_err_and}
 use Rattle.fx_whole.proofs.FirstLaws.{stop_here, pass_more, pass_all}
+use Rattle.fx_vec.specs.Views.{spatial}
 use Rattle.mj_types.specs.declared.parts.Dof.{Dof}
 use Rattle.mj_types.specs.declared.range.OutOfRange.{OutOfRange}
-use Rattle.mj_types.specs.Parts.{no_dof, body_of}
-use Rattle.mj_bias.specs.Measures.{Measured, numbers, totals, no_measure, numbers_at, totals_at, IsWithin}
+use Rattle.mj_types.specs.Parts.{no_dof, no_motion, body_of}
+use Rattle.mj_types.specs.Placed.{spatial_at}
+use Rattle.mj_bias.specs.Measures.{Measured, exact, totals, no_measure, totals_at, IsWithin}
 use Rattle.mj_bias.specs.Steps.{load_there, force_there, force_radius_there, force_fault_there, Holds, AreSmall}
 use Rattle.mj_bias.proofs.SeenLaws.{seen-read}
+use Rattle.mj_bias.proofs.StepLaws.{exact_within}
 use Rattle.mj_bias.proofs.MovingLaws.{layout_of}
 use Rattle.mj_bias.proofs.PartLaws.{holds_more, small_more}
 use Rattle.mj_bias.proofs.dofs.make_forces.Goals as goal
@@ -25,22 +28,22 @@ entry-requires-in-loop-i-2 g c = omega (arith, c.requires.wrench, ap (λ (x : Do
 pub force-requires-clause-column : goal.force-requires-clause-column
 force-requires-clause-column g c =
     subst (λ (s : Measured). IsWithin s (2 ^ 42) 0)
-    (seen-read (numbers g.K.Carry.width) no_measure c.args.column.now c.loop-i.i c.entry-in-loop-i.result.now (omega (arith, c.requires.column)) c.entry-in-loop-i.ensures)
-    (c.requires.columns c.loop-i.i (omega arith))
+    (sym (c.exact6-column.ensures ∙ ap (λ v. exact (spatial v)) (sym (c.entry-in-loop-i.ensures no_motion))))
+    (exact_within _ (2 ^ 42) (c.requires.columns c.loop-i.i (omega arith)))
 
 pub loop-i-preserved : goal.loop-i-preserved
 loop-i-preserved g c =
     let rule = g.K.Carry.settled in
     let i = c.loop-i.i in
     let m = c.args.model.now in
-    let column : ℕ → Measured = numbers_at g.K.Carry.width c.args.column.now in
+    let column : ℕ → Measured = λ (i : ℕ). exact (spatial_at c.args.column.now i) in
     let wrench : ℕ → Measured = λ (i : ℕ). totals_at g.K.Carry.wide_width c.args.wrench.now (body_of m.dofs i) in
     let value : ℕ → ℤ = λ (i : ℕ). force_there (column i) (load_there rule (wrench i)) in
     let radius : ℕ → ℕ = λ (i : ℕ). force_radius_there rule (column i) (load_there rule (wrench i)) in
     let fault : ℕ → Option OutOfRange = λ (i : ℕ). force_fault_there rule (column i) (wrench i) i in
     let e = ap (λ (x : Dof). x.body) (c.entry.ensures no_dof) in
     let there : c.entry.result.now.body < length c.args.wrench.now = omega (arith, c.requires.wrench, e, (layout_of m).on_body i (omega arith)) in
-    let s = sym (seen-read (numbers g.K.Carry.width) no_measure c.args.column.now i c.entry-in-loop-i.result.now (omega (arith, c.requires.column)) c.entry-in-loop-i.ensures) in
+    let s = c.exact6-column.ensures ∙ ap (λ v. exact (spatial v)) (sym (c.entry-in-loop-i.ensures no_motion)) in
     let t = sym (ap (totals_at g.K.Carry.wide_width c.args.wrench.now) e ∙ seen-read (totals g.K.Carry.wide_width) no_measure c.args.wrench.now c.entry.result.now.body c.entry-in-loop-i-2.result.now there c.entry-in-loop-i-2.ensures) in
     record {
       len = c.put.ensures.len ∙ c.loop-i.invariant.len;
@@ -56,10 +59,10 @@ returns-in_err-force-clause-first g c =
     let rule = g.K.Carry.settled in
     let i = c.loop-i.i in
     let m = c.args.model.now in
-    let fault : ℕ → Option OutOfRange = λ (i : ℕ). force_fault_there rule (numbers_at g.K.Carry.width c.args.column.now i) (totals_at g.K.Carry.wide_width c.args.wrench.now (body_of m.dofs i)) i in
+    let fault : ℕ → Option OutOfRange = λ (i : ℕ). force_fault_there rule (exact (spatial_at c.args.column.now i)) (totals_at g.K.Carry.wide_width c.args.wrench.now (body_of m.dofs i)) i in
     let e = ap (λ (x : Dof). x.body) (c.entry.ensures no_dof) in
     let there : c.entry.result.now.body < length c.args.wrench.now = omega (arith, c.requires.wrench, e, (layout_of m).on_body i (omega arith)) in
-    let s = sym (seen-read (numbers g.K.Carry.width) no_measure c.args.column.now i c.entry-in-loop-i.result.now (omega (arith, c.requires.column)) c.entry-in-loop-i.ensures) in
+    let s = c.exact6-column.ensures ∙ ap (λ v. exact (spatial v)) (sym (c.entry-in-loop-i.ensures no_motion)) in
     let t = sym (ap (totals_at g.K.Carry.wide_width c.args.wrench.now) e ∙ seen-read (totals g.K.Carry.wide_width) no_measure c.args.wrench.now c.entry.result.now.body c.entry-in-loop-i-2.result.now there c.entry-in-loop-i-2.ensures) in
     let r = err_from_is_err_and c.from_residual.result c.from_residual.ensures.1 in
     rw (r.1, r.2) (stop_here i m.nv fault _ (omega arith) c.loop-i.invariant.passed (c.in_err-force.ensures.first ∙ ap₂ (λ (x y : Measured). force_fault_there rule x y i) s t))
@@ -67,7 +70,7 @@ returns-in_err-force-clause-first g c =
 pub returns : goal.returns
 returns g c =
     let m = c.args.model.now in
-    let column : ℕ → Measured = numbers_at g.K.Carry.width c.args.column.now in
+    let column : ℕ → Measured = λ (i : ℕ). exact (spatial_at c.args.column.now i) in
     let wrench : ℕ → Measured = λ (i : ℕ). totals_at g.K.Carry.wide_width c.args.wrench.now (body_of m.dofs i) in
     let value : ℕ → ℤ = λ (i : ℕ). force_there (column i) (load_there g.K.Carry.settled (wrench i)) in
     let radius : ℕ → ℕ = λ (i : ℕ). force_radius_there g.K.Carry.settled (column i) (load_there g.K.Carry.settled (wrench i)) in

@@ -33,42 +33,32 @@ returns-clause-first g c =
     pass_first _ _ _ (c.in_ok-turn.ensures.first)
     (c.in_ok-rate.ensures.first ∙ ap₂ (λ (t s : Measured). measure_fault kind.DofMotion (c.args.j + 1) (2 ^ 56) (rate_there g.K.Carry.settled constant t s)) c.in_ok-turn.ensures.value e)
 
-pub returns-clause-column : goal.returns-clause-column
-returns-clause-column g c =
-    let e = c.exact6-column.ensures ∙ ap (λ s. exact (spatial s)) (sym (c.entry.ensures no_motion)) in
-    let there : c.args.j < length c.args.out.now.column = omega (arith, c.requires.room.column) in
-    seen-same (numbers g.K.Carry.width) no_measure c.args.out.now.column c.put.new.self c.args.j c.exact6-column.result c.put.ensures.len there c.put.ensures.same ∙ e
-
 pub returns-clause-turn : goal.returns-clause-turn
 returns-clause-turn g c =
     let there : c.args.j < length c.args.out.now.turn = omega (arith, c.requires.room.turn) in
-    seen-same (numbers g.K.Carry.width) no_measure c.args.out.now.turn c.put-2.new.self c.args.j c.in_ok-turn.turn c.put-2.ensures.len there c.put-2.ensures.same ∙ c.in_ok-turn.ensures.value
+    seen-same (numbers g.K.Carry.width) no_measure c.args.out.now.turn c.put.new.self c.args.j c.in_ok-turn.turn c.put.ensures.len there c.put.ensures.same ∙ c.in_ok-turn.ensures.value
 
 pub returns-clause-rate : goal.returns-clause-rate
 returns-clause-rate g c =
     let e = c.exact6-column.ensures ∙ ap (λ s. exact (spatial s)) (sym (c.entry.ensures no_motion)) in
     let there : c.args.j < length c.args.out.now.rate = omega (arith, c.requires.room.rate) in
-    seen-same (numbers g.K.Carry.width) no_measure c.args.out.now.rate c.put-3.new.self c.args.j c.in_ok-rate.rate c.put-3.ensures.len there c.put-3.ensures.same
+    seen-same (numbers g.K.Carry.width) no_measure c.args.out.now.rate c.put-2.new.self c.args.j c.in_ok-rate.rate c.put-2.ensures.len there c.put-2.ensures.same
     ∙ c.in_ok-rate.ensures.value ∙ ap₂ (λ (t s : Measured). rate_there g.K.Carry.settled (is_translation c.args.model.now c.args.j) t s) c.in_ok-turn.ensures.value e
 
 pub returns-clause-small_turn : goal.returns-clause-small_turn
 returns-clause-small_turn g c =
     let there : c.args.j < length c.args.out.now.turn = omega (arith, c.requires.room.turn) in
     subst (λ (s : Measured). IsWithin s (2 ^ 48) radius_limit)
-    (sym (seen-same (numbers g.K.Carry.width) no_measure c.args.out.now.turn c.put-2.new.self c.args.j c.in_ok-turn.turn c.put-2.ensures.len there c.put-2.ensures.same))
+    (sym (seen-same (numbers g.K.Carry.width) no_measure c.args.out.now.turn c.put.new.self c.args.j c.in_ok-turn.turn c.put.ensures.len there c.put.ensures.same))
     c.in_ok-turn.ensures.within
 
 pub returns-clause-small_rate : goal.returns-clause-small_rate
 returns-clause-small_rate g c =
     let there : c.args.j < length c.args.out.now.rate = omega (arith, c.requires.room.rate) in
     subst (λ (s : Measured). IsWithin s (2 ^ 56) radius_limit)
-    (sym (seen-same (numbers g.K.Carry.width) no_measure c.args.out.now.rate c.put-3.new.self c.args.j c.in_ok-rate.rate c.put-3.ensures.len there c.put-3.ensures.same))
+    (sym (seen-same (numbers g.K.Carry.width) no_measure c.args.out.now.rate c.put-2.new.self c.args.j c.in_ok-rate.rate c.put-2.ensures.len there c.put-2.ensures.same))
     c.in_ok-rate.ensures.within
-
-pub returns-clause-other_columns : goal.returns-clause-other_columns
-returns-clause-other_columns g c = λ i h.
-    seen-other (numbers g.K.Carry.width) no_measure c.args.out.now.column c.put.new.self c.args.j i c.exact6-column.result c.put.ensures.len c.put.ensures.others h
 
 pub returns-clause-other_turns : goal.returns-clause-other_turns
 returns-clause-other_turns g c = λ i h.
-    seen-other (numbers g.K.Carry.width) no_measure c.args.out.now.turn c.put-2.new.self c.args.j i c.in_ok-turn.turn c.put-2.ensures.len c.put-2.ensures.others h
+    seen-other (numbers g.K.Carry.width) no_measure c.args.out.now.turn c.put.new.self c.args.j i c.in_ok-turn.turn c.put.ensures.len c.put.ensures.others h

@@ -17,7 +17,7 @@ copy_sum-requires-2-clause-from g c =
 pub move_dofs-requires-clause-begun : goal.move_dofs-requires-clause-begun
 move_dofs-requires-clause-begun g c =
     let e = ap (λ (x : Body). x.parent) (sym (c.entry.ensures no_body)) in
-    begun_first g.K.Carry.settled c.args.model.now c.args.frames.now c.args.state.now g.K.Carry.width g.K.Carry.wide_width c.args.b c.args.out.now _ c.requires.place c.requires.carried refl refl
+    begun_first g.K.Carry.settled c.args.model.now c.args.frames.now c.args.state.now g.K.Carry.width g.K.Carry.wide_width c.args.b c.args.out.now _ c.requires.place c.requires.carried refl
     c.copy_sum.ensures.others c.copy_sum-2.ensures.others
     (c.copy_sum.ensures.here ∙ ap (totals_at g.K.Carry.wide_width c.args.out.now.motion) e)
     (c.copy_sum-2.ensures.here ∙ ap (totals_at g.K.Carry.wide_width c.args.out.now.drift) e)

@@ -1,10 +1,10 @@
-use Rattle.std.proofs.Common.{ℕ, ◌+◌, ◌^◌, ◌≤◌, length, sym, ◌∙◌, subst, arith}
+use Rattle.std.proofs.Common.{refl, ℕ, ◌+◌, ◌^◌, ◌≤◌, length, sym, ◌∙◌, subst, arith}
 use Rattle.std.proofs.lemmas.Result.{err_from_is_err_and}
 use Rattle.fx_whole.proofs.FirstLaws.{first_ext, stop_first, pass_first}
 use Rattle.mj_types.specs.Parts.{parent_of, body_of}
 use Rattle.mj_bias.specs.Measures.{Measured, totals_at, IsWithin}
 use Rattle.mj_bias.specs.Carried.{movement, wrench_at}
-use Rattle.mj_bias.proofs.StepLaws.{exact_within}
+use Rattle.mj_bias.proofs.CarryLaws.{next_velocity}
 use Rattle.mj_bias.proofs.MovingLaws.{AreSlow, layout_of, drift_within}
 use Rattle.mj_bias.proofs.PartLaws.{all_within, all_wrenches, body_wrench_is, body_fault_is, sum_there_is, dof_force_is, dof_radius_is, dof_force_fault_is}
 use Rattle.mj_bias.proofs.forces.bias.Goals as goal
@@ -21,13 +21,17 @@ weigh_bodies-requires-clause-drifts g c = λ k h.
     } in
     subst (λ (s : Measured). IsWithin s (2 ^ 110) (2 ^ 100)) (sym (carried.drift_ k h)) (drift_within g.K.Carry.settled m c.args.model.now.nv k slow)
 
+pub weigh_bodies-requires-clause-shared : goal.weigh_bodies-requires-clause-shared
+weigh_bodies-requires-clause-shared g c = λ k h.
+    next_velocity g.K.Carry.settled c.args.model.now c.args.frames.now c.args.state.now g.K.Carry.width g.K.Carry.wide_width c.move_bodies.new.out c.in_ok-move_bodies.ensures.carried k h
+
 pub carry_up-requires-clause-within : goal.carry_up-requires-clause-within
 carry_up-requires-clause-within g c =
     all_within (totals_at g.K.Carry.wide_width c.weigh_bodies.new.wrench) (length c.args.model.now.bodies) c.in_ok-weigh_bodies.ensures.world c.in_ok-weigh_bodies.ensures.within
 
 pub make_forces-requires-clause-columns : goal.make_forces-requires-clause-columns
 make_forces-requires-clause-columns g c = λ i h.
-    subst (λ (s : Measured). IsWithin s (2 ^ 42) 0) (sym (c.in_ok-move_bodies.ensures.carried.column_ i h)) (exact_within _ (2 ^ 42) (c.requires.frames.column i h))
+    c.requires.frames.column i h
 
 pub returns-in_err-move_bodies-clause-first : goal.returns-in_err-move_bodies-clause-first
 returns-in_err-move_bodies-clause-first g c =
@@ -62,7 +66,7 @@ returns-in_err-make_forces-clause-first g c =
     (pass_first _ _ _ (c.in_ok-weigh_bodies.ensures.first
     ∙ first_ext (length model.bodies) _ _ (λ b h. body_fault_is rule m b _ _ (carried.motion_ (b + 1) (omega arith)) (carried.drift_ (b + 1) (omega arith))))
     (c.in_err-make_forces.ensures.first
-    ∙ first_ext model.nv _ _ (λ i h. dof_force_fault_is rule m i _ _ (carried.column_ i h) (sums (body_of model.dofs i) ((layout_of model).on_body i h))))))
+    ∙ first_ext model.nv _ _ (λ i h. dof_force_fault_is rule m i _ _ refl (sums (body_of model.dofs i) ((layout_of model).on_body i h))))))
 
 pub returns-clause-first : goal.returns-clause-first
 returns-clause-first g c =
@@ -80,7 +84,7 @@ returns-clause-first g c =
     (pass_first _ _ _ (c.in_ok-weigh_bodies.ensures.first
     ∙ first_ext (length model.bodies) _ _ (λ b h. body_fault_is rule m b _ _ (carried.motion_ (b + 1) (omega arith)) (carried.drift_ (b + 1) (omega arith))))
     (c.in_ok-make_forces.ensures.first
-    ∙ first_ext model.nv _ _ (λ i h. dof_force_fault_is rule m i _ _ (carried.column_ i h) (sums (body_of model.dofs i) ((layout_of model).on_body i h)))))
+    ∙ first_ext model.nv _ _ (λ i h. dof_force_fault_is rule m i _ _ refl (sums (body_of model.dofs i) ((layout_of model).on_body i h)))))
 
 pub returns-clause-values : goal.returns-clause-values
 returns-clause-values g c =
@@ -96,6 +100,6 @@ returns-clause-values g c =
     c.carry_up.ensures.sums k h ∙ sum_there_is (parent_of model.bodies) (length model.bodies + 1) (totals_at wide c.weigh_bodies.new.wrench) (wrench_at rule m) k (λ a l. wrenches a (omega arith)) in
     let holds = c.in_ok-make_forces.ensures.values in
     record {
-      value_ = λ i h d. holds.value_ i h d ∙ dof_force_is rule m i _ _ (carried.column_ i h) (sums (body_of model.dofs i) ((layout_of model).on_body i h));
-      radius_ = λ i h d. holds.radius_ i h d ∙ dof_radius_is rule m i _ _ (carried.column_ i h) (sums (body_of model.dofs i) ((layout_of model).on_body i h));
+      value_ = λ i h d. holds.value_ i h d ∙ dof_force_is rule m i _ _ refl (sums (body_of model.dofs i) ((layout_of model).on_body i h));
+      radius_ = λ i h d. holds.radius_ i h d ∙ dof_radius_is rule m i _ _ refl (sums (body_of model.dofs i) ((layout_of model).on_body i h));
     }

@@ -1,9 +1,9 @@
 use Rattle.std.proofs.Common.{◌≡◌, ℤ, pos, ◌≤ℤ◌, ap, sym, ◌∙◌, subst, arith}
 use Rattle.std.proofs.lemmas.Int.{ints}
 use Rattle.mj_types.specs.declared.dual.DualRow.{DualRow}
-use Rattle.mj_types.specs.Duals.{IsWithinRanges}
-use Rattle.mj_dual.specs.Actives.{regularizer}
-use Rattle.mj_dual.proofs.RegularLaws.{impedance_high, regular}
+use Rattle.mj_types.specs.Duals.{IsWithinRanges, bound}
+use Rattle.mj_dual.specs.Actives.{MayBeSolvedBy, regularizer}
+use Rattle.mj_dual.proofs.RegularLaws.{impedance_high, high_in_range, low_in_range, regular}
 use Rattle.mj_dual.proofs.active.active.Goals as goal
 
 pub returns-clause-ranges : goal.returns-clause-ranges
@@ -16,11 +16,14 @@ returns-clause-ranges c =
     subst (λ (z : ℤ). pos 1 ≤ℤ z) (sym value)
     (regular c.args.diag.now.raw d c.requires.some c.impedance-d.ensures.some (impedance_high s d soft c.impedance-d.ensures.between)) in
     subst (λ (x : DualRow). IsWithinRanges x) (sym c.dual_row.ensures) (record {
-      not_idle = c.requires.some;
-      diag_limit = c.requires.diag;
       regular = some;
       r_limit = omega (arith, ints, some, c.in_ok-r.ensures.within);
       b_limit = c.in_ok-b.ensures.within;
-      low_bound = c.requires.row.low_bound;
-      high_bound = c.requires.row.high_bound;
+      low_bound = low_in_range (bound c.args.row.now.low) c.requires.row.low_bound;
+      high_bound = high_in_range (bound c.args.row.now.high) c.requires.row.high_bound;
     })
+
+pub returns-clause-solvable : goal.returns-clause-solvable
+returns-clause-solvable c =
+    subst (λ (x : DualRow). MayBeSolvedBy c.args.diag.now.raw x) (sym c.dual_row.ensures)
+    (λ nv g e. record { diagonal = e; not_idle = c.requires.some; diag_limit = c.requires.diag; low_bound = c.requires.row.low_bound; high_bound = c.requires.row.high_bound })

@@ -64,3 +64,9 @@ returns-clause-count c =
     count-whole m y cs c.take_all.new.rows c.take_all.new.out
     (taken-all m y cs begun c.take_all.new.rows c.clear.new.out c.take_all.new.out (ap (λ x. x.list) c.clear.ensures.list) (ap (λ x. x.list) c.clear.ensures.jac)
     c.clear.ensures.empty (c.clear.ensures.room.nv ∙ c.requires.dual_room.nv) c.in_ok-take_all.ensures)
+
+pub returns-in_err-take_all-clause-solvable : goal.returns-in_err-take_all-clause-solvable
+returns-in_err-take_all-clause-solvable c = c.in_err-take_all.ensures.open_.solvable
+
+pub returns-clause-solvable : goal.returns-clause-solvable
+returns-clause-solvable c = c.in_ok-take_all.ensures.open_.solvable

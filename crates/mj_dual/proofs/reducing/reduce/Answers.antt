@@ -71,9 +71,14 @@ returns-clause-lawful c =
     record {
       width = wide;
       reduced = c.in_ok-half.ensures.small;
-      diagonal = ap (λ x. x.diag.raw) c.in_ok-entry.ensures.value ∙ ap (λ x. x.raw) c.in_ok-diag.ensures.value ∙ c.square_sum.ensures.value ∙ diagonal_whole g n wide;
       ranges = c.in_ok-entry.ensures.ranges;
     }
+
+pub returns-clause-solvable : goal.returns-clause-solvable
+returns-clause-solvable c =
+    let n = c.args.model.now.nv in
+    let g = c.half.new.out in
+    c.in_ok-entry.ensures.solvable n g (ap (λ x. x.raw) c.in_ok-diag.ensures.value ∙ c.square_sum.ensures.value ∙ diagonal_whole g n (c.half.auto.out ∙ c.requires.out))
 
 pub returns-clause-first : goal.returns-clause-first
 returns-clause-first c =

@@ -19,4 +19,4 @@ returns c = λ c' is whole passed.
     let at = ap (λ (k : ℕ). k + 1) c.len-number.ensures.count in
     one-taken c.args.model.now y c' c.args.row.now c.args.rows.now c.list_row.new.rows c.args.out.now c.hold.new.out _ c.is_none.result c.in_ok-entry.entry
     c.args.jacobian.now c.reduce.new.out c.requires.open_ is whole c.requires.jacobian at passed c.in_ok-entry.ensures.first c.in_ok-entry.ensures.value c.in_ok-entry.ensures.numbers
-    (none-some c.in_ok-entry.entry c.is_none.result c.is_none.ensures) c.list_row.ensures.list c.list_row.ensures.jac c.list_row.ensures.row c.list_row.ensures.reduced c.hold.ensures.held c.hold.ensures.room
+    (none-some c.in_ok-entry.entry c.is_none.result c.is_none.ensures) c.list_row.ensures.list c.list_row.ensures.jac c.list_row.ensures.row c.list_row.ensures.reduced c.hold.ensures.held c.hold.ensures.room c.hold.ensures.solvable

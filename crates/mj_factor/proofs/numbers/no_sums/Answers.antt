@@ -1,4 +1,4 @@
-use Rattle.mj_factor.proofs.RowLaws.{none_begun}
+use Rattle.mj_types.proofs.PartLaws.{none_begun}
 use Rattle.mj_factor.proofs.numbers.no_sums.Goals as goal
 
 pub returns-clause-none : goal.returns-clause-none

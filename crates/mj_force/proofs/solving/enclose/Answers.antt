@@ -52,4 +52,4 @@ returns-clause-high c =
     high-is c.args.dual.now c.args.tolerance.mid c.args.iterations c.solve.new.out c.in_ok-stop.stop c.certify.new.out left c.in_ok-certify.ensures.numbers
 
 pub returns-clause-enclosed : goal.returns-clause-enclosed
-returns-clause-enclosed c = enclosed (dual_values c.args.dual.now).problem c.args.tolerance.mid c.args.iterations (own-regular c.args.dual.now) (own-holds_zero c.args.dual.now)
+returns-clause-enclosed c = enclosed (dual_values c.args.dual.now).problem c.args.tolerance.mid c.args.iterations (own-regular c.args.dual.now) (own-holds_zero c.args.dual.now c.requires.solvable)

@@ -7,4 +7,4 @@ returns-in-Ok g c =
     let on : c.args.going ≡ true = search rules in
     rw on
     (Sent-whole g.S.Sink.holds g.S.Sink.faults c.args.sink.now c.put.new.sink c.args.bytes.now
-    c.in-Ok.ensures.ok c.in-Ok.ensures.later)
+    c.in-Ok.ensures.ok c.in-Ok.ensures.later c.in-Ok.ensures.calm)

@@ -1,4 +1,4 @@
-use Rattle.std.proofs.Common.{◌≡◌, ◌-◌, ℕ, List, Option, take, drop, length, OnErr, ◌+◌, ◌++◌, sym, arith, length-drop, Result, Ok, Err}
+use Rattle.std.proofs.Common.{◌≡◌, ◌-◌, ℕ, List, Option, take, drop, length, OnErr, ◌+◌, ◌++◌, sym, ◌∙◌, arith, length-drop, Result, Ok, Err}
 use Rattle.std.proofs.lemmas.List.{take-append-drop}
 use Rattle.std.proofs.lemmas.Slice.{between_to_end}
 use Rattle.std.proofs.Math.Seq.{take-add}
@@ -28,10 +28,9 @@ step a b c bytes s n before more =
 
 pub loop-start-preserved : goal.loop-start-preserved
 loop-start-preserved g c =
-    let within = rw (rest c.args.bytes.now c.loop-start.start) at c.in_ok-start.ensures.within in
-    let later = c.in_ok-start.ensures.later in (
+    let within = rw (rest c.args.bytes.now c.loop-start.start) at c.in_ok-start.ensures.within in (
       omega (arith, length-drop c.loop-start.start c.args.bytes.now),
       step (g.S.Sink.holds c.args.sink.now) (g.S.Sink.holds c.loop-start.sink) (g.S.Sink.holds c.write.new.self)
           c.args.bytes.now c.loop-start.start c.in_ok-start.field-0 c.loop-start.invariant.1 c.in_ok-start.ensures.grew,
-      omega arith,
+      c.in_ok-start.ensures.calm ∙ c.loop-start.invariant.2,
     )

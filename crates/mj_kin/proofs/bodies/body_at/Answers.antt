@@ -2,7 +2,7 @@ use Rattle.std.proofs.Common.{◌+◌, ◌≤◌, subst}
 use Rattle.mj_types.specs.declared.parts.Body.{Body}
 use Rattle.mj_types.specs.Lawful.{IsBody}
 use Rattle.mj_types.specs.Parts.{no_body}
-use Rattle.mj_kin.proofs.ModelLaws.{root_there}
+use Rattle.mj_types.proofs.ModelLaws.{root_there}
 use Rattle.mj_kin.proofs.bodies.body_at.Goals as goal
 
 pub returns-clause-lawful : goal.returns-clause-lawful

@@ -9,7 +9,8 @@ use Rattle.mj_types.specs.Parts.{body, number_at, velocity_count}
 use Rattle.mj_kin.specs.declared.frame.Frame.{Frame}
 use Rattle.mj_kin.specs.Poses.{Pose, pose_after, before_joint, own_joint, moved, moved_fault}
 use Rattle.mj_kin.specs.Working.{pose_of, HasPositions, AreMarked, MarksJoint}
-use Rattle.mj_kin.proofs.ModelLaws.{joint_there, positions_there, velocities_end, few_joints, not_free}
+use Rattle.mj_types.proofs.ModelLaws.{few_joints}
+use Rattle.mj_kin.proofs.ModelLaws.{joint_there, positions_there, velocities_end, not_free}
 use Rattle.mj_kin.proofs.PoseLaws.{pose_after-more, before-own}
 use Rattle.mj_kin.proofs.MarkLaws.{marks_own}
 use Rattle.mj_kin.proofs.ResultLaws.{if_ok_both}

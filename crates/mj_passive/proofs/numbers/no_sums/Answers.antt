@@ -1,4 +1,4 @@
-use Rattle.mj_passive.proofs.SumLaws.{none_begun}
+use Rattle.mj_types.proofs.PartLaws.{none_begun}
 use Rattle.mj_passive.proofs.numbers.no_sums.Goals as goal
 
 pub returns : goal.returns

@@ -3,7 +3,7 @@ use Rattle.std.proofs.lemmas.Int.{ints}
 use Rattle.fx_whole.specs.Sums.{when}
 use Rattle.mj_types.specs.Duals.{wide_at}
 use Rattle.mj_passive.proofs.JointLaws.{dof_is}
-use Rattle.mj_passive.proofs.SumLaws.{grows}
+use Rattle.fx_whole.proofs.SumLaws.{grows}
 use Rattle.mj_passive.proofs.tendons.pull_one.Goals as goal
 
 none : (x : ℤ) → pos 0 +ℤ x ≡ x

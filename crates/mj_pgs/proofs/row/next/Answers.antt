@@ -1,13 +1,19 @@
-use Rattle.std.proofs.Common.{◌≡◌, ◌∙◌, ap, ap₂, sym, None}
+use Rattle.std.proofs.Common.{◌≡◌, ◌∙◌, ℤ, ap, ap₂, sym, subst, IsTrue, Option, None}
 use Rattle.mj_optimum.specs.Limits.{force_limit}
 use Rattle.mj_optimum.specs.Sweep.{divisor, update}
 use Rattle.mj_optimum.specs.Cost.{gradient}
-use Rattle.mj_types.specs.Duals.{bound, bound_at}
+use Rattle.mj_types.specs.Duals.{bound, bound_at, is_low, is_high}
 use Rattle.mj_types.specs.Problems.{problem, forces}
 use Rattle.mj_types.specs.Ranges.{limited}
 use Rattle.mj_types.specs.declared.range.Quantity.TheVariants as kind
 use Rattle.mj_pgs.proofs.RowLaws.{same_next}
 use Rattle.mj_pgs.proofs.row.next.Goals as goal
+
+pub next_force-next-requires-clause-low : goal.next_force-next-requires-clause-low
+next_force-next-requires-clause-low c = subst (λ (a : Option ℤ). IsTrue (is_low a)) (ap bound (c.at.ensures None)) (c.requires.held.solvable.each c.args.i c.requires.row).low_bound
+
+pub next_force-next-requires-clause-high : goal.next_force-next-requires-clause-high
+next_force-next-requires-clause-high c = subst (λ (a : Option ℤ). IsTrue (is_high a)) (ap bound (c.at-2.ensures None)) (c.requires.held.solvable.each c.args.i c.requires.row).high_bound
 
 pub returns-clause-first : goal.returns-clause-first
 returns-clause-first c =

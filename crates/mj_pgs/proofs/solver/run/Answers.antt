@@ -16,7 +16,7 @@ pub loop-s-init : goal.loop-s-init
 loop-s-init c = run-none c.args.dual.now c.args.tolerance.mid c.args.out.now c.start.new.out c.start.ensures.places c.start.ensures.held c.start.ensures.forces
 
 pub round-requires-clause-cost : goal.round-requires-clause-cost
-round-requires-clause-cost c = costs-nothing c.args.dual.now _ c.loop-s.s c.loop-s.invariant.swept
+round-requires-clause-cost c = costs-nothing c.args.dual.now _ c.loop-s.s c.requires.solvable c.loop-s.invariant.swept
 
 pub returns-in_err-fall-clause-answer : goal.returns-in_err-fall-clause-answer
 returns-in_err-fall-clause-answer c =

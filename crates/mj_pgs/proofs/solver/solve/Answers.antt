@@ -15,10 +15,10 @@ returns-clause-stop c = stop-is (problem c.args.dual.now) (place c.args.dual.now
 pub returns-clause-falls : goal.returns-clause-falls
 returns-clause-falls c =
     let p = problem c.args.dual.now in
-    if_ok_each c.run.result (λ (stop : Stop). (s : ℕ) → s < sweeps_of stop → cost p (iterate p (suc s)) (pos 1) ≤ℤ cost p (iterate p s) (pos 1)) (λ stop s h. sweep_lowers_cost p s (holds_zero c.args.dual.now))
+    if_ok_each c.run.result (λ (stop : Stop). (s : ℕ) → s < sweeps_of stop → cost p (iterate p (suc s)) (pos 1) ≤ℤ cost p (iterate p s) (pos 1)) (λ stop s h. sweep_lowers_cost p s (holds_zero c.args.dual.now c.requires.solvable))
 
 pub returns-clause-cost : goal.returns-clause-cost
 returns-clause-cost c =
     let p = problem c.args.dual.now in
     let f = forces c.run.new.out in
-    if_ok_map c.run.result (λ (stop : Stop). f ≡ iterate p (sweeps_of stop)) (λ stop. cost p f (pos 1) ≤ℤ pos 0) (λ stop e. costs-nothing c.args.dual.now f (sweeps_of stop) e) c.run.ensures.forces
+    if_ok_map c.run.result (λ (stop : Stop). f ≡ iterate p (sweeps_of stop)) (λ stop. cost p f (pos 1) ≤ℤ pos 0) (λ stop e. costs-nothing c.args.dual.now f (sweeps_of stop) c.requires.solvable e) c.run.ensures.forces

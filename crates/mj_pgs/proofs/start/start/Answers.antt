@@ -22,7 +22,7 @@ pub returns-clause-held : goal.returns-clause-held
 returns-clause-held c =
     let so = c.loop-i.invariant in
     let e : c.loop-i.i ≡ c.args.dual.now.m = omega arith in
-    started c.args.dual.now c.args.out.now c.loop-i.out c.requires
+    started c.args.dual.now c.args.out.now c.loop-i.out c.requires.solvable c.requires.places
     (record { f = ap length so.0 ∙ c.clear.ensures.len; u = ap length so.1 ∙ c.clear-2.ensures.len; divisor = so.2; used = so.3 })
     (λ i. ap (λ l. number_at l i) so.0 ∙ c.clear.ensures.zero i) (λ k. ap (λ l. number_at l k) so.1 ∙ c.clear-2.ensures.zero k)
     (λ j h. so.4 j (omega arith))

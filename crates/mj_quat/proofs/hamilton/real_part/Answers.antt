@@ -11,4 +11,4 @@ returns-clause-value c =
     let b = c.args.b.now in
     let first : to_z w128 (of_z w128 c.pair_difference-first.result) ≡ a.w.mid *ℤ b.w.mid -ℤ a.x.mid *ℤ b.x.mid = search rules in
     let second : to_z w128 (of_z w128 c.pair_sum-second.result) ≡ a.y.mid *ℤ b.y.mid +ℤ a.z.mid *ℤ b.z.mid = search rules in
-    c.round_difference.ensures.value ∙ ap round (hamilton_w _ _ (a.w.mid *ℤ b.w.mid) (a.x.mid *ℤ b.x.mid) (a.y.mid *ℤ b.y.mid) (a.z.mid *ℤ b.z.mid) first second)
+    c.rounded_difference.ensures.value ∙ ap round (hamilton_w _ _ (a.w.mid *ℤ b.w.mid) (a.x.mid *ℤ b.x.mid) (a.y.mid *ℤ b.y.mid) (a.z.mid *ℤ b.z.mid) first second)

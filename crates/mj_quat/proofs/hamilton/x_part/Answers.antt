@@ -11,4 +11,4 @@ returns-clause-value c =
     let b = c.args.b.now in
     let first : to_z w128 (of_z w128 c.pair_sum-first.result) ≡ a.w.mid *ℤ b.x.mid +ℤ a.x.mid *ℤ b.w.mid = search rules in
     let second : to_z w128 (of_z w128 c.pair_difference-second.result) ≡ a.y.mid *ℤ b.z.mid -ℤ a.z.mid *ℤ b.y.mid = search rules in
-    c.round_sum.ensures.value ∙ ap round (hamilton_x _ _ (a.w.mid *ℤ b.x.mid) (a.x.mid *ℤ b.w.mid) (a.y.mid *ℤ b.z.mid) (a.z.mid *ℤ b.y.mid) first second)
+    c.rounded_sum.ensures.value ∙ ap round (hamilton_x _ _ (a.w.mid *ℤ b.x.mid) (a.x.mid *ℤ b.w.mid) (a.y.mid *ℤ b.z.mid) (a.z.mid *ℤ b.y.mid) first second)

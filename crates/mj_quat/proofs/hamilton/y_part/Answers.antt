@@ -11,4 +11,4 @@ returns-clause-value c =
     let b = c.args.b.now in
     let first : to_z w128 (of_z w128 c.pair_difference-first.result) ≡ a.w.mid *ℤ b.y.mid -ℤ a.x.mid *ℤ b.z.mid = search rules in
     let second : to_z w128 (of_z w128 c.pair_sum-second.result) ≡ a.y.mid *ℤ b.w.mid +ℤ a.z.mid *ℤ b.x.mid = search rules in
-    c.round_sum.ensures.value ∙ ap round (hamilton_y _ _ (a.w.mid *ℤ b.y.mid) (a.x.mid *ℤ b.z.mid) (a.y.mid *ℤ b.w.mid) (a.z.mid *ℤ b.x.mid) first second)
+    c.rounded_sum.ensures.value ∙ ap round (hamilton_y _ _ (a.w.mid *ℤ b.y.mid) (a.x.mid *ℤ b.z.mid) (a.y.mid *ℤ b.w.mid) (a.z.mid *ℤ b.x.mid) first second)

@@ -11,4 +11,4 @@ returns-clause-value c =
     let b = c.args.b.now in
     let first : to_z w128 (of_z w128 c.pair_sum-first.result) ≡ a.w.mid *ℤ b.z.mid +ℤ a.x.mid *ℤ b.y.mid = search rules in
     let second : to_z w128 (of_z w128 c.pair_difference-second.result) ≡ a.z.mid *ℤ b.w.mid -ℤ a.y.mid *ℤ b.x.mid = search rules in
-    c.round_sum.ensures.value ∙ ap round (hamilton_z _ _ (a.w.mid *ℤ b.z.mid) (a.x.mid *ℤ b.y.mid) (a.y.mid *ℤ b.x.mid) (a.z.mid *ℤ b.w.mid) first second)
+    c.rounded_sum.ensures.value ∙ ap round (hamilton_z _ _ (a.w.mid *ℤ b.z.mid) (a.x.mid *ℤ b.y.mid) (a.y.mid *ℤ b.x.mid) (a.z.mid *ℤ b.w.mid) first second)

@@ -6,5 +6,5 @@ use Rattle.mj_quat.proofs.lengths.root.Goals as goal
 
 pub narrow-requires : goal.narrow-requires
 narrow-requires c =
-    let v : to_z w128 (of_z w128 c.isqrt.result) ≡ isqrt c.args.n.now = search rules in
+    let v : to_z w128 (of_z w128 c.isqrt_from.result) ≡ isqrt c.args.n.now = search rules in
     omega (arith, ap unsigned_abs v, root-fits c.args.n.now c.requires.not_negative c.requires.size)

@@ -5,5 +5,5 @@ use Rattle.mj_quat.proofs.products.round_product.Goals as goal
 
 pub returns-clause-size : goal.returns-clause-size
 returns-clause-size c =
-    let v : c.round.result.mid ≡ round (c.args.a.now.mid *ℤ c.args.b.now.mid) = search rules in
+    let v : c.rounded_product.result.mid ≡ round (c.args.a.now.mid *ℤ c.args.b.now.mid) = search rules in
     omega (arith, ap unsigned_abs v, round_product-le c.args.a.now.mid c.args.b.now.mid c.requires.b)

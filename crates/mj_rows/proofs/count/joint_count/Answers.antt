@@ -1,5 +1,5 @@
 use Rattle.std.proofs.Common.{arith}
-use Rattle.mj_rows.proofs.TreeLaws.{few_joints}
+use Rattle.mj_types.proofs.ModelLaws.{few_joints}
 use Rattle.mj_rows.proofs.count.joint_count.Goals as goal
 
 pub returns-clause-few : goal.returns-clause-few

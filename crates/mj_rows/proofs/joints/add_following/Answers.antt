@@ -1,7 +1,7 @@
 use Rattle.std.proofs.Common.{◌^◌, arith}
 use Rattle.std.specs.Prelude.{◌==◌}
 use Rattle.mj_types.specs.Parts.{number_at}
-use Rattle.mj_rows.proofs.SizeLaws.{grows}
+use Rattle.fx_whole.proofs.SumLaws.{grows}
 use Rattle.mj_rows.proofs.joints.add_following.Goals as goal
 
 pub returns-in-Some-clause-size : goal.returns-in-Some-clause-size

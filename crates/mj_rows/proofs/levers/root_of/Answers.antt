@@ -3,7 +3,8 @@ use Rattle.mj_types.specs.declared.model.Model.{Model}
 use Rattle.mj_types.specs.declared.parts.Body.{Body}
 use Rattle.mj_types.specs.declared.parts.Dof.{Dof}
 use Rattle.mj_types.specs.Parts.{body, dof, no_body, no_dof}
-use Rattle.mj_rows.proofs.TreeLaws.{root_there, body_there}
+use Rattle.mj_types.proofs.ModelLaws.{root_there}
+use Rattle.mj_rows.proofs.TreeLaws.{body_there}
 use Rattle.mj_rows.proofs.levers.root_of.Goals as goal
 
 -- the root of the body that was read

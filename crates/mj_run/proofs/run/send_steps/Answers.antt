@@ -22,6 +22,7 @@ loop-done-init g c =
       state = c.requires.start;
       passed = refl;
       sent = rw (joined-none (block_at m driven c.args.wants)) (sent-nothing g.S.Sink.holds g.S.Sink.faults c.args.sink.now c.args.page.now);
+      goes_on = λ on. on;
     }
 
 pub send_step-requires-clause-controls : goal.send_step-requires-clause-controls
@@ -49,6 +50,7 @@ loop-done-preserved g c =
       sent = sent-then so_far.sent c.in-Ok.ensures.sent
           (text-more m driven c.args.wants k s so_far.state
           ∙ ap (λ u. blocks_text m driven c.args.wants k ++ block_text m.format m.nq m.nv (k + 1) (step_values m s u) (asked c.args.wants (dual_at m s u))) (sym row));
+      goes_on = λ on. cc;
     }
 
 -- a step was refused
@@ -76,6 +78,9 @@ returns-in-Err-clause-end g c =
     let refused = refused-here m driven k s c.in-Err.out so_far.state (ap (step_fault m s) (sym row) ∙ sym c.in-Err.ensures.first) in
     c.early_end.ensures ∙ sym (end-early m driven k c.args.steps c.in-Err.out c.loop-done-test.true so_far.passed refused)
 
+pub returns-in-Err-clause-goes_on : goal.returns-in-Err-clause-goes_on
+returns-in-Err-clause-goes_on g c = λ on. ap (λ p. p.going) c.in-Err.ensures.page ∙ c.loop-done.invariant.goes_on on
+
 -- the writing stopped
 pub returns-then-not-is_going-clause-sent : goal.returns-then-not-is_going-clause-sent
 returns-then-not-is_going-clause-sent g c =
@@ -100,4 +105,4 @@ returns g c =
     let so_far = c.loop-done.invariant in
     let all : c.loop-done.done ≡ c.args.steps = omega arith in
     let done = whole m driven c.loop-done.done c.args.steps all so_far.passed in
-    record { sent = rw done.0 so_far.sent; end = sym done.1 }
+    record { sent = rw done.0 so_far.sent; end = sym done.1; goes_on = so_far.goes_on }

@@ -1,4 +1,4 @@
-use Rattle.std.proofs.Common.{◌≡◌, None, length}
+use Rattle.std.proofs.Common.{◌≡◌, true, None, length}
 use Rattle.fx_whole.specs.First.{first_to}
 use Rattle.mj_io.specs.Sent.{Sent}
 use Rattle.mj_step.specs.Workspace.{MadeFor}
@@ -16,4 +16,5 @@ invariant-loop-done g l =
       state : l.runner.state ≡ state_at l.model driven l.done;
       passed : first_to l.done (refusal_at l.model driven) ≡ None;
       sent : Sent g.S.Sink.holds g.S.Sink.faults l.initial.sink l.initial.page (blocks_text l.model driven l.wants l.done) l.sink l.page;
+      goes_on : l.initial.page.going ≡ true → l.page.going ≡ true;
     }

@@ -4,7 +4,7 @@ use Rattle.mj_read.specs.Document.{no_memory}
 use Rattle.mj_valid.specs.Judging.{accepted_of, judged_bytes}
 use Rattle.mj_top.specs.Outcome.{IsTapesOutcome, IsBatchFileOutcome, model_refused}
 use Rattle.mj_top.specs.Ends.{NthTapeRose, AcceptsTapes, AcceptsTapesOf}
-use Rattle.mj_top.proofs.Endings.{answers-within, answers-from_ends, nothing-from_ends, later_cause-from_ends, later_cause-within}
+use Rattle.mj_top.proofs.Endings.{answers-within, answers-from_ends, leaves-from_ends, later_cause-from_ends, later_cause-within}
 use Rattle.mj_top.proofs.batch.batch_file.Goals as goal
 
 pub returns-in-Ok : goal.returns-in-Ok
@@ -42,6 +42,6 @@ returns-in_default g c =
     let after = c.refuse_model.new.sink in
     record {
       outcome = λ told. answers-from_ends g.S.Sink.holds g.S.Sink.faults before after (IsBatchFileOutcome held words bytes) outcome c.refuse_model.result (Err fault, sym judged, refl) c.refuse_model.ensures;
-      nothing = nothing-from_ends g.S.Sink.holds g.S.Sink.faults before after outcome c.refuse_model.result c.refuse_model.ensures;
+      nothing = leaves-from_ends g.S.Sink.holds g.S.Sink.faults before after outcome c.refuse_model.result c.refuse_model.ensures;
       cause = later_cause-from_ends g.S.Sink.holds g.S.Sink.faults before after (NthTapeRose words tells (AcceptsTapesOf words held bytes) reads reads) outcome c.refuse_model.result tt c.refuse_model.ensures;
     }

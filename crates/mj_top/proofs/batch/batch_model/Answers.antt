@@ -4,8 +4,8 @@ use Rattle.mj_run.specs.Batch.{batch_end, AreJobsOf}
 use Rattle.mj_words.specs.Words.{step_count}
 use Rattle.mj_top.specs.Outcome.{IsTapesOutcome, batched}
 use Rattle.mj_top.specs.Ends.{NthTapeRose, AcceptsTapes, Ends}
-use Rattle.mj_top.proofs.Endings.{answers-from_ends, nothing-from_ends, later_cause-from_ends, later-status_of}
-use Rattle.mj_top.proofs.Taken.{answers-from_stopped, nothing-from_stopped, later_cause-from_stopped}
+use Rattle.mj_top.proofs.Endings.{answers-from_ends, leaves-from_ends, later_cause-from_ends, later-status_of}
+use Rattle.mj_top.proofs.Taken.{answers-from_stopped, leaves-from_stopped, later_cause-from_stopped}
 use Rattle.mj_top.proofs.batch.batch_model.Goals as goal
 
 pub returns-in-Ok : goal.returns-in-Ok
@@ -25,7 +25,7 @@ returns-in-Ok g c =
     let ends : Ends g.S.Sink.holds g.S.Sink.faults outcome before answer after = c.run_jobs-status.ensures m n taken.tapes (subst Q (sym c.as_mut_slice.ensures.value) taken.due) in
     record {
       outcome = λ told. answers-from_ends g.S.Sink.holds g.S.Sink.faults before after (IsTapesOutcome held words m) outcome answer (taken.tapes, taken.accepted told, inl (taken.count, refl)) ends;
-      nothing = nothing-from_ends g.S.Sink.holds g.S.Sink.faults before after outcome answer ends;
+      nothing = leaves-from_ends g.S.Sink.holds g.S.Sink.faults before after outcome answer ends;
       cause = later_cause-from_ends g.S.Sink.holds g.S.Sink.faults before after (NthTapeRose words tells (AcceptsTapes words held m) (g.C.Cabinet.faults cabinet) (g.C.Cabinet.faults c.add_tapes.new.cabinet)) outcome answer (later-status_of (batch_end m n taken.tapes)) ends;
     }
 
@@ -42,6 +42,6 @@ returns-in-Err g c =
     let after = c.stop.new.sink in
     record {
       outcome = λ told. answers-from_stopped words tells held m g.S.Sink.holds g.S.Sink.faults before after reads reads_after c.in-Err.why c.stop.result c.in-Err.ensures c.stop.ensures told;
-      nothing = nothing-from_stopped words tells held m g.S.Sink.holds g.S.Sink.faults before after reads reads_after c.in-Err.why c.stop.result c.stop.ensures;
+      nothing = leaves-from_stopped words tells held m g.S.Sink.holds g.S.Sink.faults before after reads reads_after c.in-Err.why c.stop.result c.stop.ensures;
       cause = later_cause-from_stopped words tells held m g.S.Sink.holds g.S.Sink.faults before after reads reads_after c.in-Err.why c.stop.result c.in-Err.ensures c.stop.ensures;
     }

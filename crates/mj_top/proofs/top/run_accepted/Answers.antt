@@ -1,8 +1,10 @@
-use Rattle.std.proofs.Common.{◌≡◌, ◌∙◌, ℕ, map, string_bytes, sym, ap, None, subst}
+use Rattle.std.proofs.Common.{Bool, IsTrue, true, false, ◌≡◌, ◌∙◌, ℕ, map, string_bytes, sym, ap, None, subst, refl}
+use Rattle.mj_words.specs.declared.table.Command.{Command}
 use Rattle.mj_words.specs.declared.table.Command.TheVariants as command
 use Rattle.mj_words.specs.Words.{seed_of, link_count}
+use Rattle.mj_top.specs.Headline.{reads_files}
 use Rattle.mj_top.specs.Outcome.{Outcome, IsOutcome, IsBenchOutcome, generated}
-use Rattle.mj_top.proofs.Endings.{answers-from_either, nothing-from_either, later_cause-from_either, cause-from_later, outcome-is, answers-within, answers-from_meant, nothing-from_meant, later_cause-from_meant, bench-later}
+use Rattle.mj_top.proofs.Endings.{answers-from_either, leaves-from_either, later_cause-from_either, cause-from_later, outcome-is, answers-within, answers-from_meant, leaves-from_meant, later_cause-from_meant, bench-later}
 use Rattle.mj_top.proofs.top.run_accepted.Goals as goal
 
 pub returns-in-Gen : goal.returns-in-Gen
@@ -19,7 +21,8 @@ returns-in-Gen g c =
     let after = c.generate.new.sink in
     record {
       outcome = λ told. answers-from_either g.S.Sink.holds g.S.Sink.faults before after (IsOutcome words held) outcome c.generate.result meant c.generate.ensures;
-      nothing = nothing-from_either g.S.Sink.holds g.S.Sink.faults before after outcome c.generate.result c.generate.ensures;
+      nothing = leaves-from_either g.S.Sink.holds g.S.Sink.faults before after outcome c.generate.result c.generate.ensures;
+      unread = λ none. refl;
       cause = cause-from_later words tells held ⊥ c.generate.result counts counts (g.S.Sink.faults before) (g.S.Sink.faults after) c.requires
           (λ rose e. absurd rose)
           (later_cause-from_either g.S.Sink.holds g.S.Sink.faults before after ⊥ outcome c.generate.result tt c.generate.ensures);
@@ -46,8 +49,29 @@ returns-in-Bench g c =
     record {
       outcome = λ told. answers-within (IsBenchOutcome seed links n) (IsOutcome words held) c.bench.result _ _ within
           (answers-from_meant g.S.Sink.holds g.S.Sink.faults before after (IsBenchOutcome seed links n) c.bench.result c.bench.ensures);
-      nothing = nothing-from_meant g.S.Sink.holds g.S.Sink.faults before after (IsBenchOutcome seed links n) c.bench.result c.bench.ensures;
+      nothing = leaves-from_meant g.S.Sink.holds g.S.Sink.faults before after (IsBenchOutcome seed links n) c.bench.result c.bench.ensures;
+      unread = λ none. refl;
       cause = cause-from_later words tells held ⊥ c.bench.result counts counts (g.S.Sink.faults before) (g.S.Sink.faults after) c.requires
           (λ rose e. absurd rose)
           (later_cause-from_meant g.S.Sink.holds g.S.Sink.faults before after (IsBenchOutcome seed links n) c.bench.result ⊥ (bench-later seed links n) c.bench.ensures);
     }
+
+pub returns-in-Run-clause-outcome : goal.returns-in-Run-clause-outcome
+returns-in-Run-clause-outcome g c = λ told.
+    let P = λ (k : Command). IsTrue (reads_files k) → IsTrue (g.C.Cabinet.tells c.args.cabinet.now) in
+    let sure : IsTrue (reads_files command.Run) → IsTrue (g.C.Cabinet.tells c.args.cabinet.now) = subst P (sym c.in-Run.ensures) told in
+    c.run_files.ensures.outcome (sure refl)
+
+pub returns-in-Run-clause-unread : goal.returns-in-Run-clause-unread
+returns-in-Run-clause-unread g c = λ none.
+    let wrong : true ≡ false = ap reads_files c.in-Run.ensures ∙ none in absurd (let no : ⊥ = cc in no)
+
+pub returns-in-Batch-clause-outcome : goal.returns-in-Batch-clause-outcome
+returns-in-Batch-clause-outcome g c = λ told.
+    let P = λ (k : Command). IsTrue (reads_files k) → IsTrue (g.C.Cabinet.tells c.args.cabinet.now) in
+    let sure : IsTrue (reads_files command.Batch) → IsTrue (g.C.Cabinet.tells c.args.cabinet.now) = subst P (sym c.in-Batch.ensures) told in
+    c.batch.ensures.outcome (sure refl)
+
+pub returns-in-Batch-clause-unread : goal.returns-in-Batch-clause-unread
+returns-in-Batch-clause-unread g c = λ none.
+    let wrong : true ≡ false = ap reads_files c.in-Batch.ensures ∙ none in absurd (let no : ⊥ = cc in no)

@@ -1,10 +1,10 @@
-use Rattle.std.proofs.Common.{◌≡◌, List, ℕ, map, string_bytes, sym, Some, Option, refl, ap, subst}
-use Rattle.mj_types.specs.declared.model.Model.{Model}
-use Rattle.mj_types.specs.Control.{Control}
+use Rattle.std.proofs.Common.{◌≡◌, ℕ, map, string_bytes, sym, ap, ◌∙◌, Some, None, is_none, Bool, false, ◌&&◌, IsTrue, Option, refl, subst}
 use Rattle.mj_run.specs.Run.{state_at}
-use Rattle.mj_words.specs.Words.{bad_place}
-use Rattle.mj_top.specs.Outcome.{Outcome, IsOutcome, IsWordsOutcome, words_refused}
-use Rattle.mj_top.proofs.Endings.{answers-from_ends, nothing-from_ends, cause-from_refused, completes}
+use Rattle.mj_words.specs.Words.{bad_place, command_of}
+use Rattle.mj_top.specs.Headline.{reads_files, read_files}
+use Rattle.mj_top.specs.Outcome.{IsOutcome, IsWordsOutcome, words_refused}
+use Rattle.mj_top.proofs.Endings.{answers-from_ends, leaves-from_ends, cause-from_refused, completes}
+use Rattle.mj_top.proofs.HeadlineLaws.{headline, ends-well}
 use Rattle.mj_top.proofs.top.run_gated.Goals as goal
 
 pub returns-in-Some : goal.returns-in-Some
@@ -21,28 +21,42 @@ returns-in-Some g c =
     let meant = let P = λ (p : Option ℕ). IsWordsOutcome held words p (words_refused at) in subst P (sym bad) refl in
     let cause = cause-from_refused g.S.Sink.holds g.S.Sink.faults before after words tells held at answer counts counts bad c.refuse_words.ensures in
     let answers = answers-from_ends g.S.Sink.holds g.S.Sink.faults before after (IsOutcome words held) (words_refused at) answer meant c.refuse_words.ensures in
+    let complete = completes words tells held answer (g.S.Sink.holds before) (g.S.Sink.holds after) counts counts (g.S.Sink.faults before) (g.S.Sink.faults after) answers cause in
     record {
+      headline = λ told. headline c.steps_are_certified.ensures c.steps_are_covered.ensures words held answer (g.S.Sink.holds before) (g.S.Sink.holds after) answers;
+      ends = λ told. ends-well words held tells answer counts counts (g.S.Sink.faults before) (g.S.Sink.faults after) complete;
+      unread = λ none. refl;
+      certified = λ m controls k. c.steps_are_certified.ensures m (state_at m controls k) (controls k);
+      covered = λ m controls k. c.steps_are_covered.ensures m (state_at m controls k) (controls k);
       outcome = λ told. answers;
-      nothing = nothing-from_ends g.S.Sink.holds g.S.Sink.faults before after (words_refused at) answer c.refuse_words.ensures;
-      refused = λ x e.
-          let same : at ≡ x = cc in
-          answers-from_ends g.S.Sink.holds g.S.Sink.faults before after (λ (o : Outcome). o ≡ words_refused x) (words_refused at) answer (ap words_refused same) c.refuse_words.ensures;
+      nothing = leaves-from_ends g.S.Sink.holds g.S.Sink.faults before after (words_refused at) answer c.refuse_words.ensures;
       cause = cause;
-      complete = λ told. completes words tells held answer (g.S.Sink.holds before) (g.S.Sink.holds after) counts counts (g.S.Sink.faults before) (g.S.Sink.faults after) answers cause;
-      covered = λ (m : Model) (controls : ℕ → List Control) (k : ℕ). c.steps_are_covered.ensures m (state_at m controls k) (controls k);
-      certified = λ (m : Model) (controls : ℕ → List Control) (k : ℕ). c.steps_are_certified.ensures m (state_at m controls k) (controls k);
+      complete = λ told. complete;
     }
 
-pub returns-in-None-clause-complete : goal.returns-in-None-clause-complete
-returns-in-None-clause-complete g c = λ told.
+pub returns-in-None : goal.returns-in-None
+returns-in-None g c =
     let words = map string_bytes c.args.words.now in
+    let tells = g.C.Cabinet.tells c.args.cabinet.now in
     let held = g.C.Cabinet.holds c.args.cabinet.now in
     let done = c.run_accepted.ensures in
-    completes words (g.C.Cabinet.tells c.args.cabinet.now) held c.run_accepted.result (g.S.Sink.holds c.args.sink.now) (g.S.Sink.holds c.run_accepted.new.sink)
-    (g.C.Cabinet.faults c.args.cabinet.now) (g.C.Cabinet.faults c.run_accepted.new.cabinet) (g.S.Sink.faults c.args.sink.now) (g.S.Sink.faults c.run_accepted.new.sink) (done.outcome told) done.cause
-
-pub returns-in-None-clause-covered : goal.returns-in-None-clause-covered
-returns-in-None-clause-covered g c = λ (m : Model) (controls : ℕ → List Control) (k : ℕ). c.steps_are_covered.ensures m (state_at m controls k) (controls k)
-
-pub returns-in-None-clause-certified : goal.returns-in-None-clause-certified
-returns-in-None-clause-certified g c = λ (m : Model) (controls : ℕ → List Control) (k : ℕ). c.steps_are_certified.ensures m (state_at m controls k) (controls k)
+    let answer = c.run_accepted.result in
+    let before = c.args.sink.now in
+    let after = c.run_accepted.new.sink in
+    let good : bad_place words ≡ None = sym c.in-None.ensures in
+    let P = λ (p : Option ℕ). IsTrue (is_none p && reads_files (command_of words)) → IsTrue tells in
+    let sure = λ (told : IsTrue (read_files words) → IsTrue tells). done.outcome (subst P good told) in
+    let complete = λ (told : IsTrue (read_files words) → IsTrue tells). completes words tells held answer (g.S.Sink.holds before) (g.S.Sink.holds after)
+    (g.C.Cabinet.faults c.args.cabinet.now) (g.C.Cabinet.faults c.run_accepted.new.cabinet) (g.S.Sink.faults before) (g.S.Sink.faults after) (sure told) done.cause in
+    let Q = λ (p : Option ℕ). is_none p && reads_files (command_of words) ≡ false in
+    record {
+      headline = λ told. headline c.steps_are_certified.ensures c.steps_are_covered.ensures words held answer (g.S.Sink.holds before) (g.S.Sink.holds after) (sure told);
+      ends = λ told. ends-well words held tells answer (g.C.Cabinet.faults c.args.cabinet.now) (g.C.Cabinet.faults c.run_accepted.new.cabinet) (g.S.Sink.faults before) (g.S.Sink.faults after) (complete told);
+      outcome = sure;
+      complete = complete;
+      cause = done.cause;
+      nothing = done.nothing;
+      unread = λ none. done.unread (subst Q good none);
+      certified = λ m controls k. c.steps_are_certified.ensures m (state_at m controls k) (controls k);
+      covered = λ m controls k. c.steps_are_covered.ensures m (state_at m controls k) (controls k);
+    }

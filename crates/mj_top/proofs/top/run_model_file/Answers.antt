@@ -6,7 +6,7 @@ use Rattle.mj_valid.specs.Judging.{accepted_of, judged_bytes}
 use Rattle.mj_words.specs.Words.{step_count, wants_dual, tape_of}
 use Rattle.mj_top.specs.Outcome.{Outcome, IsFileOutcome, with_tape_name, model_refused}
 use Rattle.mj_top.specs.Ends.{Ends, TapeRose}
-use Rattle.mj_top.proofs.Endings.{answers-within, answers-from_ends, nothing-from_ends, later_cause-from_ends}
+use Rattle.mj_top.proofs.Endings.{answers-within, answers-from_ends, leaves-from_ends, later_cause-from_ends}
 use Rattle.mj_top.proofs.top.run_model_file.Goals as goal
 
 pub returns-in-Ok : goal.returns-in-Ok
@@ -38,7 +38,7 @@ returns-in_default g c =
     let after = c.refuse_model.new.sink in
     record {
       outcome = λ tells. answers-from_ends g.S.Sink.holds g.S.Sink.faults before after (IsFileOutcome held (wants_dual words) (step_count words) (tape_of words) bytes) outcome c.refuse_model.result (Err fault, sym judged, refl) c.refuse_model.ensures;
-      nothing = nothing-from_ends g.S.Sink.holds g.S.Sink.faults before after outcome c.refuse_model.result c.refuse_model.ensures;
+      nothing = leaves-from_ends g.S.Sink.holds g.S.Sink.faults before after outcome c.refuse_model.result c.refuse_model.ensures;
       cause = later_cause-from_ends g.S.Sink.holds g.S.Sink.faults before after (TapeRose (tape_of words) counts counts) outcome c.refuse_model.result tt c.refuse_model.ensures;
       accepted = λ e. let P = λ (s : Status). Ends g.S.Sink.holds g.S.Sink.faults outcome before s after in absurd (subst P e c.refuse_model.ensures);
     }

@@ -6,7 +6,7 @@ use Rattle.mj_words.specs.Words.{step_count, wants_dual, tape_of}
 use Rattle.mj_run.specs.Run.{end_of}
 use Rattle.mj_top.specs.Outcome.{Outcome, ran, with_tape, with_tape_name, with_tape_file, tape_room, tape_cap}
 use Rattle.mj_top.specs.Ends.{TapeRose}
-use Rattle.mj_top.proofs.Endings.{answers-from_either, nothing-from_either, later_cause-from_either, later-status_of, later-with_tape}
+use Rattle.mj_top.proofs.Endings.{answers-from_either, leaves-from_either, later_cause-from_either, later-status_of, later-with_tape}
 use Rattle.mj_top.proofs.top.run_with_tape.Goals as goal
 
 pub returns-in-None : goal.returns-in-None
@@ -24,7 +24,7 @@ returns-in-None g c =
     record {
       outcome = λ tells. answers-from_either g.S.Sink.holds g.S.Sink.faults c.args.sink.now c.run_at_rest.new.sink
           (λ (o : Outcome). with_tape_name held (wants_dual words) (step_count words) m (tape_of words) ≡ Some o) outcome c.run_at_rest.result found c.run_at_rest.ensures;
-      nothing = nothing-from_either g.S.Sink.holds g.S.Sink.faults c.args.sink.now c.run_at_rest.new.sink outcome c.run_at_rest.result c.run_at_rest.ensures;
+      nothing = leaves-from_either g.S.Sink.holds g.S.Sink.faults c.args.sink.now c.run_at_rest.new.sink outcome c.run_at_rest.result c.run_at_rest.ensures;
       cause = later_cause-from_either g.S.Sink.holds g.S.Sink.faults c.args.sink.now c.run_at_rest.new.sink (TapeRose (tape_of words) counts counts) outcome c.run_at_rest.result
           (later-status_of (end_of m (controls_at (length m.motors) None) steps)) c.run_at_rest.ensures;
     }
@@ -49,7 +49,7 @@ returns-in-Ok g c =
           ∙ ap (λ b. Some (with_tape wants steps m (tape_verdict (length m.motors) steps tape_room b))) (sym bytes) in
           answers-from_either g.S.Sink.holds g.S.Sink.faults c.args.sink.now c.run_tape_file.new.sink
           (λ (o : Outcome). with_tape_name held (wants_dual words) (step_count words) m (tape_of words) ≡ Some o) outcome c.run_tape_file.result found c.run_tape_file.ensures;
-      nothing = nothing-from_either g.S.Sink.holds g.S.Sink.faults c.args.sink.now c.run_tape_file.new.sink outcome c.run_tape_file.result c.run_tape_file.ensures;
+      nothing = leaves-from_either g.S.Sink.holds g.S.Sink.faults c.args.sink.now c.run_tape_file.new.sink outcome c.run_tape_file.result c.run_tape_file.ensures;
       cause = later_cause-from_either g.S.Sink.holds g.S.Sink.faults c.args.sink.now c.run_tape_file.new.sink
           (TapeRose (tape_of words) (g.C.Cabinet.faults c.args.cabinet.now) (g.C.Cabinet.faults c.read.new.self)) outcome c.run_tape_file.result (later-with_tape wants steps m answer) c.run_tape_file.ensures;
     }

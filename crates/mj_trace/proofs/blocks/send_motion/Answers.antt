@@ -1,4 +1,4 @@
-use Rattle.std.proofs.Common.{refl, sym, ap, codes, length}
+use Rattle.std.proofs.Common.{refl, sym, ap, codes}
 use Rattle.mj_io.proofs.Sent.{sent-then}
 use Rattle.mj_types.specs.Parts.{number_at}
 use Rattle.mj_trace.specs.Block.{motion_text}

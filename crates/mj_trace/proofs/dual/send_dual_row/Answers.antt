@@ -1,11 +1,11 @@
-use Rattle.std.proofs.Common.{◌≡◌, ◌<◌, ◌++◌, None, ℕ, ℤ, pos, List, [], length, refl, sym, ap, ap₂, ◌∙◌, codes, decimal}
+use Rattle.std.proofs.Common.{◌≡◌, ◌<◌, ◌++◌, None, ℕ, pos, List, [], length, refl, sym, ap, ap₂, ◌∙◌, codes, decimal}
 use Rattle.fx_num.specs.declared.number.Number.{Number}
 use Rattle.fx_whole.specs.Entries.{below}
 use Rattle.fx_whole.proofs.EntryLaws.{below-within}
 use Rattle.fx_whole.proofs.JoinedLaws.{joined-ext}
 use Rattle.mj_io.proofs.Sent.{sent-then}
 use Rattle.mj_types.specs.declared.dual.Dual.{Dual}
-use Rattle.mj_types.specs.Duals.{wide_at, entry_at, bound_at}
+use Rattle.mj_types.specs.Duals.{entry_at}
 use Rattle.mj_types.specs.Parts.{plain, number_at}
 use Rattle.mj_types.specs.Problems.{problem, place}
 use Rattle.mj_types.specs.StepValues.{dual_values}

@@ -1,8 +1,7 @@
-use Rattle.std.proofs.Common.{◌+◌, arith}
-use Rattle.mj_trace.proofs.Joining.{sent-begun, sent-joined, sent-whole, sent-as}
+use Rattle.std.proofs.Common.{arith}
+use Rattle.mj_trace.proofs.Joining.{sent-begun, sent-joined, sent-whole}
 use Rattle.mj_types.specs.StepValues.{dual_values}
 use Rattle.mj_trace.specs.Block.{dual_row_text}
-use Rattle.fx_whole.specs.Joined.{joined}
 use Rattle.mj_trace.proofs.dual.send_dual_rows.Goals as goal
 
 pub loop-i-init : goal.loop-i-init

@@ -1,8 +1,7 @@
-use Rattle.std.proofs.Common.{◌+◌, length, arith}
-use Rattle.mj_trace.proofs.Joining.{sent-begun, sent-joined, sent-whole, sent-as}
+use Rattle.std.proofs.Common.{length, arith}
+use Rattle.mj_trace.proofs.Joining.{sent-begun, sent-joined, sent-whole}
 use Rattle.mj_types.specs.Parts.{number_at}
 use Rattle.mj_trace.specs.Lines.{spaced}
-use Rattle.fx_whole.specs.Joined.{joined}
 use Rattle.mj_trace.proofs.lines.send_numbers.Goals as goal
 
 pub loop-i-init : goal.loop-i-init

@@ -1,4 +1,4 @@
-use Rattle.std.proofs.Common.{◌≡◌, ◌<◌, ◌≤◌, ◌+◌, ◌^◌, arith}
+use Rattle.std.proofs.Common.{arith}
 use Rattle.fx_whole.proofs.CountLaws.{count_to-size}
 use Rattle.mj_types.specs.StepValues.{row}
 use Rattle.mj_trace.proofs.rows.count_idle.Goals as goal

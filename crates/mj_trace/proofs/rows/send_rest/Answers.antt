@@ -1,5 +1,4 @@
-use Rattle.std.proofs.Common.{◌≡◌, ◌<◌, ◌≤◌, ◌+◌, ◌++◌, ℕ, ℤ, pos, Bool, true, false, not, cond, List, length, refl, sym, ap, ap₂, ◌∙◌, codes, arith, subst}
-use Rattle.fx_whole.specs.Entries.{below}
+use Rattle.std.proofs.Common.{◌≡◌, ◌<◌, ◌++◌, ℕ, pos, false, not, cond, List, length, sym, ap, ap₂, ◌∙◌, codes, arith}
 use Rattle.fx_whole.proofs.CountLaws.{count_to-below}
 use Rattle.fx_whole.proofs.EntryLaws.{below-within}
 use Rattle.mj_types.specs.declared.rows.Row.{Row}

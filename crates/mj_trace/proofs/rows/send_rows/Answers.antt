@@ -1,10 +1,9 @@
-use Rattle.std.proofs.Common.{◌+◌, ◌≡◌, ℕ, not, cond, length, arith, refl, sym, ap, ap₂, ◌∙◌}
-use Rattle.mj_trace.proofs.Joining.{sent-begun, sent-joined, sent-whole, sent-as}
-use Rattle.mj_types.specs.StepValues.{active_before, is_active, no_row}
+use Rattle.std.proofs.Common.{◌+◌, ℕ, not, cond, length, arith, refl, sym, ap, ap₂, ◌∙◌}
+use Rattle.mj_trace.proofs.Joining.{sent-begun, sent-joined, sent-whole}
+use Rattle.mj_types.specs.StepValues.{is_active, no_row}
 use Rattle.fx_whole.proofs.CountLaws.{count_to-size}
 use Rattle.fx_whole.proofs.SumLaws.{sum_ℕ_to-more}
 use Rattle.mj_trace.specs.Reports.{report_row}
-use Rattle.fx_whole.specs.Joined.{joined}
 use Rattle.mj_trace.proofs.rows.send_rows.Goals as goal
 
 pub loop-i-init : goal.loop-i-init

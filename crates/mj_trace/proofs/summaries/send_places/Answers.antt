@@ -1,9 +1,8 @@
-use Rattle.std.proofs.Common.{◌+◌, length, arith}
-use Rattle.mj_trace.proofs.Joining.{sent-begun, sent-joined, sent-whole, sent-as}
+use Rattle.std.proofs.Common.{length, arith}
+use Rattle.mj_trace.proofs.Joining.{sent-begun, sent-joined, sent-whole}
 use Rattle.std.specs.Prelude.{◌++◌, codes}
 use Rattle.fx_text.specs.Places.{decimal_text}
 use Rattle.mj_types.specs.Parts.{number_at}
-use Rattle.fx_whole.specs.Joined.{joined}
 use Rattle.mj_trace.proofs.summaries.send_places.Goals as goal
 
 pub loop-i-init : goal.loop-i-init

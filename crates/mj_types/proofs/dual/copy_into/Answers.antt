@@ -1,6 +1,6 @@
-use Rattle.std.proofs.Common.{◌≡◌, ◌≢◌, ◌+◌, ◌∙◌, ap, sym, inl, inr, pos, arith}
+use Rattle.std.proofs.Common.{◌+◌, ◌∙◌, ap, inl, inr, pos, arith}
 use Rattle.std.proofs.lemmas.Bool.{cases_eq}
-use Rattle.mj_types.specs.Parts.{number_at, plain}
+use Rattle.mj_types.specs.Parts.{plain}
 use Rattle.mj_types.proofs.dual.copy_into.Goals as goal
 
 pub loop-k-preserved : goal.loop-k-preserved

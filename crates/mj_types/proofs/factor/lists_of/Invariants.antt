@@ -1,5 +1,4 @@
 use Rattle.mj_tree.specs.Listing.{AreEnds, IsListedTo}
-use Rattle.mj_types.specs.declared.model.Model.{Model}
 use Rattle.mj_types.specs.Forests.{above_in}
 use Rattle.mj_types.proofs.factor.lists_of.Given as goal
 

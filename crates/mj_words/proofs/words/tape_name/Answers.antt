@@ -1,4 +1,4 @@
-use Rattle.std.proofs.Common.{◌≡◌, true, map, string_bytes, is_some, sym, ap, ◌∙◌}
+use Rattle.std.proofs.Common.{◌≡◌, true, map, string_bytes, is_some, ap, ◌∙◌}
 use Rattle.mj_words.specs.Words.{is_tape, value, value_count, nth_tape}
 use Rattle.mj_words.proofs.Counts.{nth-found}
 use Rattle.mj_words.proofs.words.tape_name.Goals as goal

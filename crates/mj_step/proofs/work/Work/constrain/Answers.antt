@@ -52,4 +52,4 @@ returns-clause-rows c =
     let same = same_dynamics m s u w.factor c.as_slice.result.now c.requires.factor (ap (λ xs. number_at xs) c.as_slice.ensures.value ∙ c.requires.smooth.value) in
     let here = constraints-are m s w.frames w.applied c.contacts.new.out c.requires.frames c.requires.applied c.in_ok-contacts.ensures.list in
     rows-are m s u _ _ same here c.assemble.new.rows c.assemble.new.out
-    c.in_ok-assemble.ensures.rows c.in_ok-assemble.ensures.jacobians c.in_ok-assemble.ensures.dual c.in_ok-assemble.ensures.count
+    c.in_ok-assemble.ensures.rows c.in_ok-assemble.ensures.jacobians c.in_ok-assemble.ensures.dual c.in_ok-assemble.ensures.count c.in_ok-assemble.ensures.solvable

@@ -1,4 +1,4 @@
-use Rattle.std.proofs.Common.{ℕ, length, List, replicate, ◌≡◌, ◌+◌, ap, ◌∙◌, arith}
+use Rattle.std.proofs.Common.{ℕ, length, List, replicate, ◌≡◌, ap, ◌∙◌, arith}
 use Rattle.std.proofs.lemmas.List.{length-replicate}
 use Rattle.mj_types.proofs.bias.Bias.new.Goals as goal
 

@@ -1,4 +1,4 @@
-use Rattle.mj_types.proofs.DualLaws.{rows-more}
+use Rattle.mj_types.proofs.DualLaws.{rows-more, solvable-more}
 use Rattle.mj_types.proofs.dual.Dual.push.Goals as goal
 
 pub invariant_of-self : goal.invariant_of-self
@@ -21,3 +21,16 @@ invariant_of-self c =
           (record { len = l.len; same = l.same; others = l.others })
           (record { len = h.len; same = h.same; others = h.others });
     }
+
+pub returns-clause-solvable : goal.returns-clause-solvable
+returns-clause-solvable c solvable may =
+    let s = c.args.self.now in
+    let d = c.put-2.ensures in
+    let l = c.put-5.ensures in
+    let h = c.put-6.ensures in
+    solvable-more s.m s.nv s.g _ s.diag _ s.low _ s.high _ c.args.numbers.now c.args.row
+    (record { len = c.copy_into.ensures.len; here = λ k i. c.copy_into.ensures.here k (rw c.requires.lawful.width i); before = c.copy_into.ensures.before })
+    (record { len = d.len; same = d.same; others = d.others })
+    (record { len = l.len; same = l.same; others = l.others })
+    (record { len = h.len; same = h.same; others = h.others })
+    solvable may

@@ -1,4 +1,4 @@
-use Rattle.std.proofs.Common.{◌≡◌, ℕ, ◌≤◌, length}
+use Rattle.std.proofs.Common.{◌≡◌, ◌≤◌, length}
 use Rattle.mj_tree.specs.Tree.{at_or_above}
 use Rattle.mj_types.specs.Parts.{parent_of}
 use Rattle.mj_types.proofs.model.Model.is_at_or_above.Given as goal
