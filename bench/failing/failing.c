@@ -26,6 +26,8 @@ int posix_memalign(void **place, size_t align, size_t size) {
     return *place ? 0 : 12;
 }
 
+void *aligned_alloc(size_t align, size_t size) { return fails() ? NULL : __libc_memalign(align, size); }
+
 __attribute__((destructor)) static void tell(void) {
     const char *name = getenv("FAIL_COUNT");
     long all = count;

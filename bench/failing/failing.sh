@@ -17,6 +17,7 @@ others=0
 run_failing() {
     number=$1
     shift
+    rm -f "$room/count"
     status=0
     FAIL_NTH=$number FAIL_COUNT=$room/count LD_PRELOAD=$room/failing.so "$mj" "$@" \
         > "$room/out" 2> "$room/error" < /dev/null || status=$?
@@ -29,6 +30,10 @@ try() {
     run_failing 0 "$@"
     whole=$status
     mv "$room/out" "$room/whole"
+    if [ ! -f "$room/count" ]; then
+        echo "failing: $mj doesn't count its requests: is it linked with a C library of its own?" >&2
+        exit 1
+    fi
     all=$(cat "$room/count")
     none=0
     same=0
@@ -74,5 +79,11 @@ done
 try "contacts, dual" run --model examples/chain.toml --steps 80 --tape examples/chain.csv --dual yes
 try "generated model" gen --links 2 --seed 7
 try "bench" bench --links 2 --seed 7 --steps 3
+try "contacts, dual, balls" run --model examples/ball.toml --steps 60 --dual yes --ball yes
+try "inverse" inverse --model examples/ball.toml --steps 60
+"$mj" run --model examples/ball.toml --steps 60 --dual yes > "$room/whole.dump" || true
+head -n 100 "$room/whole.dump" > "$room/cut.dump"
+try "check" check --dual "$room/whole.dump"
+try "check, rejected" check --dual "$room/cut.dump"
 try "refused model" run --model "$room/wide.csv" --steps 3
 [ "$others" -eq 0 ]

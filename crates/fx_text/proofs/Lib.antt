@@ -1,3 +1,4 @@
+pub mod DigitLaws
 pub mod Exponent
 pub mod Faults
 pub mod PartsFound

@@ -3,3 +3,4 @@ pub mod Prefixes
 pub mod Numeral
 pub mod Parts
 pub mod Places
+pub mod Raw

@@ -5,6 +5,9 @@ use Rattle.fx_vec.specs.Vectors.{Triple, times}
 use Rattle.fx_vec.specs.Spatial.{Spatial, Inertia, plus6, times6}
 use Rattle.fx_vec.specs.Sizes.{Within, Below, Within6, Below6, cross_size, plus_size, plus6_size, times_size, times6_size, pair_size, motion_cross_size, force_cross_size, turned_size, inertia_size}
 use Rattle.fx_vec.specs.Widths.{cross_width, times_width, times6_width, pair_width, motion_cross_width, force_cross_width, exact_dot_width, exact_cross_width, exact_times_width, turned_width, inertia_width}
+use Rattle.fx_vec.specs.Inertias.{IsShort}
+use Rattle.fx_vec.specs.Views.{inertia}
+use Rattle.fx_vec.specs.declared.inertia.Inertia10.{Inertia10}
 use Rattle.fx_vec.specs.Room.{Fits, Narrow, Grown, Fits6, Narrow6, Grown6}
 use Rattle.fx_vec.proofs.Bounds.{dot_size-le, cross_size-le, dot_width-le, cross_width-le, product_width-le, plus-within, within-le}
 use Rattle.mj_types.specs.Placed.{WithinInertia}
@@ -177,4 +180,22 @@ inertia_width-le i r m t h k = record {
       (below-plus (turned_width i r.ang) (exact_cross_width i.moment r.lin) (3 * (m * t)) (2 * (m * t)) (turned_width-le i r.ang m t h k.ang) (exact_cross-le i.moment r.lin m t h.moment k.lin)) (three_two (m * t));
   lin = below-le _ (m * t + 2 * (m * t)) (5 * (m * t))
       (below-plus (exact_times_width i.mass r.lin) (exact_cross_width i.moment r.ang) (m * t) (2 * (m * t)) (exact_times-le i.mass r.lin m t h.mass k.lin) (exact_cross-le i.moment r.ang m t h.moment k.ang)) (one_two (m * t));
+}
+
+-- ---- what is within 2^62 needs no more than 64 bits
+short_one : (n : ℕ) → n ≤ 2 ^ 62 → n < 2 ^ 63
+short_one n h = omega arith
+
+pub short_inertia : (i : Inertia10) → WithinInertia (inertia i) (2 ^ 62) → IsShort i
+short_inertia i h = record {
+  xx = short_one _ h.row_x.x;
+  xy = short_one _ h.row_x.y;
+  xz = short_one _ h.row_x.z;
+  yy = short_one _ h.row_y.y;
+  yz = short_one _ h.row_y.z;
+  zz = short_one _ h.row_z.z;
+  mx = short_one _ h.moment.x;
+  my = short_one _ h.moment.y;
+  mz = short_one _ h.moment.z;
+  mass = short_one _ h.mass;
 }

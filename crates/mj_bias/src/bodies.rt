@@ -17,7 +17,9 @@ use crate::numbers::{add_multiple, exact3, minus_one, no_sums, no_vector};
 use crate::settling::settle_vector;
 use fx_list::Array;
 use fx_num::{Carry, Plain};
-use fx_vec::{Inertia10, Sp6, Sum6, Total3, Total6, V3, Vector6, force_cross_into, inertia_into};
+use fx_vec::{
+    Inertia10, Sp6, Sum6, Total3, Total6, V3, Vector6, force_cross_into, short_inertia_into,
+};
 use mj_types::{Frames, Model, OutOfRange, Quantity};
 
 // Whether a number is at most 2^118 in size.
@@ -138,7 +140,7 @@ fn momentum<K: Carry>(
         (measure.numbers K.width v.now)) }
 {
     let mut sum = no_sums::<K, 72>();
-    inertia_into::<K, 32, 72>(inertia, v, &mut sum);
+    short_inertia_into::<K, 32, 72>(inertia, v, &mut sum);
     settle_vector::<K, 72, 40>(&sum, 1 << 62, Quantity::BodyMotion, k)
 }
 
@@ -161,7 +163,7 @@ fn wrench<K: Carry>(
     ensures width { measure.IsNarrow (measure.totals K.wide_width result) (2 ^ 106) }
 {
     let mut sum = no_sums::<K, 72>();
-    inertia_into::<K, 32, 72>(inertia, a, &mut sum);
+    short_inertia_into::<K, 32, 72>(inertia, a, &mut sum);
     force_cross_into::<K, 32, 40, 72>(v, p, &mut sum);
     sum
 }

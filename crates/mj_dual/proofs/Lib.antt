@@ -29,10 +29,23 @@
 --   one-out, -refused      a call that takes one is refused before its reduction, or by it;  one-taken: it takes it
 -- ContactLaws: the edges of a contact;  contact-out: a lever out of range is a fault of its first row
 -- AssemblyLaws: where an assembly begins, and what all rows that were taken are
+-- ImpedanceLaws, of `impedance` (mj_imp)
+--   impedance-between *    it lies between dmin and dmax, whatever the violation is;  impedance-some: it is above 0
+--
+-- ConstraintLaws, of `constraints` (mj_rows)
+--   constraints-lawful *   each of them is lawful (specs/Lawful)
+--
+-- LawfulLaws, of `dual_of`
+--   dual-regular, -zero    of lawful constraints the dual is regular, and holds the force 0
+--   state_dual-regular *, -zero *      and so does that of each state
+--
 -- ReadLaws: row_list-reads *, dual_of-reads *, assembly_fault-reads *     an assembly reads the dynamics at the dofs alone
 pub mod AssemblyLaws
+pub mod ConstraintLaws
 pub mod ContactLaws
 pub mod EntryLaws
+pub mod ImpedanceLaws
+pub mod LawfulLaws
 pub mod PassingLaws
 pub mod ReadLaws
 pub mod ReductionLaws

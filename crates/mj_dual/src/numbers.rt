@@ -2,6 +2,7 @@
 ghost use Rattle.std.specs.Prelude.{◌≡◌, ℕ, pos, length, ◌+◌, ◌^◌, ◌<◌, ◌≤◌, ◌+ℤ◌, ◌*ℤ◌, ◌≤ℤ◌, unsigned_abs, IfOk};
 ghost use Rattle.fx_whole.specs.First.{refusal_of};
 ghost use Rattle.fx_whole.specs.Sums.{sum_to};
+ghost use Rattle.fx_num.specs.Settled.{settled_mid};
 ghost use Rattle.mj_types.specs.declared.range.Quantity.TheVariants as kind;
 ghost use Rattle.mj_types.specs.Parts.{number_at};
 ghost use Rattle.mj_types.specs.Ranges as ranges;
@@ -54,15 +55,25 @@ fn dot(j: &[Fix<32>], x: &[Fix<32>]) -> Wide<64>
 }
 
 /// `J x`, rounded once.
-pub(crate) fn along(j: &[Fix<32>], x: &[Fix<32>]) -> Wide<32>
+pub fn along(j: &[Fix<32>], x: &[Fix<32>]) -> Wide<32>
     requires few { length j.now ≤ 64 }
     requires width { length x.now ≡ length j.now }
     requires jacobian { (k : ℕ) → k < length j.now → unsigned_abs (number_at j.now k) ≤ 2 ^ 48 }
     requires numbers { (k : ℕ) → k < length j.now → unsigned_abs (number_at x.now k) ≤ 2 ^ 56 }
-    ensures { result.raw ≡ spec.along (length j.now) (number_at j.now) (number_at x.now) }
+    ensures value { result.raw ≡ spec.along (length j.now) (number_at j.now) (number_at x.now) }
+    ensures small { unsigned_abs result.raw ≤ 2 ^ 79 }
+{
+    rounded(&dot(j, x))
+}
+
+// A sum of products, rounded to scale 32.
+fn rounded(sum: &Wide<64>) -> Wide<32>
+    requires { unsigned_abs sum.now.raw ≤ 2 ^ 110 }
+    ensures value { result.raw ≡ settled_mid sum.now.raw 32 }
+    ensures small { unsigned_abs result.raw ≤ 2 ^ 79 }
 {
     Wide {
-        raw: nearest_shift(dot(j, x).raw, 32),
+        raw: nearest_shift(sum.raw, 32),
     }
 }
 
@@ -82,7 +93,7 @@ pub(crate) fn square_sum(g: &[Fix<24>]) -> Wide<48>
 }
 
 /// `value` in 64 bits, where its size is at most `limit`; else its fault.
-pub(crate) fn limited<const F: u32>(
+pub fn limited<const F: u32>(
     value: &Wide<F>,
     limit: i64,
     kind: Quantity,

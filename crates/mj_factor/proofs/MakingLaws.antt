@@ -1,16 +1,18 @@
 -- A factor is made row after row: what the stored rows give for the next, and what all of them are in the end.
-use Rattle.std.proofs.Common.{◌≡◌, ◌≢◌, ℕ, ◌+◌, ◌-◌, ◌^◌, ◌<◌, ◌≤◌, true, false, ℤ, pos, ◌-ℤ◌, ◌≤ℤ◌, unsigned_abs, List, length, None, refl, sym, ap, ap₂, ◌∙◌, subst, arith, inl, inr, ◌⊎◌}
-use Rattle.std.proofs.lemmas.Bool.{cases_lt, cases_eq, cases_Bool}
+use Rattle.std.proofs.Common.{◌≡◌, ◌≢◌, ℕ, ◌+◌, ◌-◌, ◌^◌, ◌<◌, ◌≤◌, ◌==◌, true, false, ℤ, pos, ◌-ℤ◌, ◌≤ℤ◌, unsigned_abs, List, length, None, refl, sym, ap, ap₂, ◌∙◌, subst, arith, inl, inr, ◌⊎◌}
+use Rattle.std.proofs.lemmas.Bool.{cases_lt, cases_eq, cases_Bool, ne_eqb}
+use Rattle.std.proofs.lemmas.Int.{ints}
+use Rattle.std.proofs.Math.Path.{fun_ext}
 use Rattle.std.proofs.lemmas.List.{get_or_past}
 use Rattle.fx_whole.specs.First.{first_to}
 use Rattle.fx_whole.specs.Nearest.{nearest}
 use Rattle.fx_whole.specs.Sums.{sum_to}
 use Rattle.fx_whole.proofs.FirstLaws.{first_ext, first_none}
-use Rattle.fx_whole.proofs.SumLaws.{when-true, when-false}
+use Rattle.fx_whole.proofs.SumLaws.{when-true, when-false, when-zero}
 use Rattle.fx_num.specs.declared.number.Number.{Number}
 use Rattle.fx_num.specs.declared.number.Wide.{Wide}
 use Rattle.mj_tree.specs.Listing.{start, height, listed}
-use Rattle.mj_tree.proofs.ListingLaws.{start_more, start_le, height_place, height_less, listed_at_height, height_of_listed, listed_is_above, first_over_listed}
+use Rattle.mj_tree.proofs.ListingLaws.{start_more, start_le, height_place, height_less, listed_at_height, height_of_listed, listed_is_above, listed_is_before, first_over_listed}
 use Rattle.mj_types.specs.declared.model.Model.{Model}
 use Rattle.mj_types.specs.declared.carriers.Factor.{Factor}
 use Rattle.mj_types.specs.declared.carriers.Mass.{Mass}
@@ -20,55 +22,72 @@ use Rattle.mj_types.specs.Forests.{above_in}
 use Rattle.mj_types.specs.Parts.{number_at, plain}
 use Rattle.mj_factor.specs.Factors.{work, lower, pivot, entry_fault}
 use Rattle.mj_types.specs.Masses.{mass_at, IsMass}
-use Rattle.mj_factor.specs.Stored.{IsFactor, entry, less, quotient, row_term, work_there, lower_there, SmallFrom, HasRows}
+use Rattle.mj_factor.specs.Stored.{IsFactor, entry, less, quotient, row_term, work_there, lower_there, SmallFrom, shifted_mass, HasRows}
 use Rattle.mj_factor.proofs.FactorLaws.{work_is, work_apart, lower_apart, entry_apart, sum_is_stored}
 use Rattle.mj_factor.proofs.PlaceLaws.{forest_in}
 use Rattle.mj_factor.proofs.RangeLaws.{entry_within}
+
+-- beside its diagonal it is the mass matrix
+pub shifted_beside : (s : ℤ) (m : Model) (x : Mass) (k i : ℕ) → i < k → shifted_mass s m x k i ≡ mass_at m.nv x.m k i
+shifted_beside s m x k i h = ap (λ y. mass_at m.nv x.m k i -ℤ y) (when-false (k == i) s (ne_eqb k i (λ e. omega (arith, e)))) ∙ less_none (mass_at m.nv x.m k i)
+  where
+    less_none : (y : ℤ) → y -ℤ pos 0 ≡ y
+    less_none y = omega (arith, ints)
+
+shifted_apart : (s : ℤ) (m : Model) (x : Mass) → IsMass m x → (k i : ℕ) → k < m.nv → i < k → above_in m i k ≡ false → shifted_mass s m x k i ≡ pos 0
+shifted_apart s m x is k i h l e = shifted_beside s m x k i l ∙ is.apart k i h l e
+
+-- less 0 it is the mass matrix
+pub shifted_by_none : (m : Model) (x : Mass) → shifted_mass (pos 0) m x ≡ mass_at m.nv x.m
+shifted_by_none m x = fun_ext (λ i. fun_ext (λ j. ap (λ y. mass_at m.nv x.m i j -ℤ y) (when-zero (i == j)) ∙ none (mass_at m.nv x.m i j)))
+  where
+    none : (y : ℤ) → y -ℤ pos 0 ≡ y
+    none y = omega (arith, ints)
 
 -- the sums for row k
 pub record AreSums (m : Model) (f : Factor) (k : ℕ) (sums : List (Wide 72)) : Type 0 where
   pub each : (c : ℕ) → c ≤ height (above_in m) k
       → wide_at sums c ≡ sum_to m.nv (row_term (above_in m) (number_at f.l) (number_at f.w) k c)
 
-module _ (m : Model) (x : Mass) (is : IsMass m x) (k : ℕ) (in_model : k < m.nv) (f : Factor) (room : FactorRoom m f) (rows : HasRows m x (k + 1) f) (sums : List (Wide 72)) (are : AreSums m f k sums) where
+module _ (s : ℤ) (m : Model) (x : Mass) (is : IsMass m x) (k : ℕ) (in_model : k < m.nv) (f : Factor) (room : FactorRoom m f) (rows : HasRows s m x (k + 1) f) (sums : List (Wide 72)) (are : AreSums m f k sums) where
   from_sum : (i : ℕ) → (above_in m i k ≡ true) ⊎ (i ≡ k) → height (above_in m) i ≤ height (above_in m) k
-      → less (mass_at m.nv x.m k i) (wide_at sums (height (above_in m) i)) ≡ work m.nv (mass_at m.nv x.m) k i
+      → less (shifted_mass s m x k i) (wide_at sums (height (above_in m) i)) ≡ work m.nv (shifted_mass s m x) k i
   from_sum i which h =
-      ap (λ s. mass_at m.nv x.m k i -ℤ nearest s (pos (2 ^ 32)))
+      ap (λ y. shifted_mass s m x k i -ℤ nearest y (pos (2 ^ 32)))
       (are.each (height (above_in m) i) h
-      ∙ sum_is_stored m.nv (mass_at m.nv x.m) (above_in m) (forest_in m) is.apart k i (number_at f.l) (number_at f.w) in_model which
+      ∙ sum_is_stored m.nv (shifted_mass s m x) (above_in m) (forest_in m) (shifted_apart s m x is) k i (number_at f.l) (number_at f.w) in_model which
       (λ j c p q r. rows.works j c (omega arith) q r) (λ j c p q r. rows.lowers j c (omega arith) q r))
-      ∙ sym (work_is m.nv (mass_at m.nv x.m) k i in_model)
+      ∙ sym (work_is m.nv (shifted_mass s m x) k i in_model)
 
-  pub pivot_from_sum : less (mass_at m.nv x.m k k) (wide_at sums (height (above_in m) k)) ≡ pivot m.nv (mass_at m.nv x.m) k
+  pub pivot_from_sum : less (shifted_mass s m x k k) (wide_at sums (height (above_in m) k)) ≡ pivot m.nv (shifted_mass s m x) k
   pivot_from_sum = from_sum k (inr refl) (omega arith)
 
   pub work_from_sum : (c : ℕ) → c < height (above_in m) k
-      → work_there m x f.above sums k c ≡ work m.nv (mass_at m.nv x.m) k (listed (above_in m) f.above k c)
+      → work_there m x f.above sums k c ≡ work m.nv (shifted_mass s m x) k (listed (above_in m) f.above k c)
   work_from_sum c h =
       let i = listed (above_in m) f.above k c in
       let e : height (above_in m) i ≡ c = height_of_listed (above_in m) m.nv f.at f.above room.listing (forest_in m) k c in_model h in
-      ap (λ (y : ℕ). less (mass_at m.nv x.m k i) (wide_at sums y)) (sym e)
+      ap₂ (λ v (y : ℕ). less v (wide_at sums y)) (sym (shifted_beside s m x k i (listed_is_before (above_in m) m.nv f.at f.above room.listing k c in_model h))) (sym e)
       ∙ from_sum i (inl (listed_is_above (above_in m) m.nv f.at f.above room.listing k c in_model h)) (omega arith)
 
-  pub lower_from_sum : (d : ℤ) → d ≡ pivot m.nv (mass_at m.nv x.m) k → (c : ℕ) → c < height (above_in m) k
-      → lower_there m x f.above sums d k c ≡ lower m.nv (mass_at m.nv x.m) k (listed (above_in m) f.above k c)
+  pub lower_from_sum : (d : ℤ) → d ≡ pivot m.nv (shifted_mass s m x) k → (c : ℕ) → c < height (above_in m) k
+      → lower_there m x f.above sums d k c ≡ lower m.nv (shifted_mass s m x) k (listed (above_in m) f.above k c)
   lower_from_sum d e c h = ap₂ quotient (work_from_sum c h) e
 
   -- the faults of the listed entries are all
-  pub faults_from_sums : (d : ℤ) → d ≡ pivot m.nv (mass_at m.nv x.m) k
+  pub faults_from_sums : (d : ℤ) → d ≡ pivot m.nv (shifted_mass s m x) k
       → first_to (height (above_in m) k) (λ c. entry_fault k (work_there m x f.above sums k c) (lower_there m x f.above sums d k c))
-      ≡ first_to k (λ i. entry_fault k (work m.nv (mass_at m.nv x.m) k i) (lower m.nv (mass_at m.nv x.m) k i))
+      ≡ first_to k (λ i. entry_fault k (work m.nv (shifted_mass s m x) k i) (lower m.nv (shifted_mass s m x) k i))
   faults_from_sums d e =
       first_ext (height (above_in m) k) (λ c. entry_fault k (work_there m x f.above sums k c) (lower_there m x f.above sums d k c))
-      (λ c. entry_fault k (work m.nv (mass_at m.nv x.m) k (listed (above_in m) f.above k c)) (lower m.nv (mass_at m.nv x.m) k (listed (above_in m) f.above k c)))
+      (λ c. entry_fault k (work m.nv (shifted_mass s m x) k (listed (above_in m) f.above k c)) (lower m.nv (shifted_mass s m x) k (listed (above_in m) f.above k c)))
       (λ c h. ap₂ (entry_fault k) (work_from_sum c h) (lower_from_sum d e c h))
       ∙ sym (first_over_listed (above_in m) m.nv f.at f.above room.listing k in_model
-      (λ i. entry_fault k (work m.nv (mass_at m.nv x.m) k i) (lower m.nv (mass_at m.nv x.m) k i))
-      (λ i h r. entry_apart m.nv (mass_at m.nv x.m) (above_in m) (forest_in m) is.apart k i in_model h r))
+      (λ i. entry_fault k (work m.nv (shifted_mass s m x) k i) (lower m.nv (shifted_mass s m x) k i))
+      (λ i h r. entry_apart m.nv (shifted_mass s m x) (above_in m) (forest_in m) (shifted_apart s m x is) k i in_model h r))
 
   -- row k was written
-  module _ (g : Factor) (d : ℤ) (is_pivot : d ≡ pivot m.nv (mass_at m.nv x.m) k)
+  module _ (g : Factor) (d : ℤ) (is_pivot : d ≡ pivot m.nv (shifted_mass s m x) k)
       (here : number_at g.d k ≡ d) (least : pos (2 ^ 10) ≤ℤ d) (most : d ≤ℤ pos (2 ^ 60))
       (others : (j : ℕ) → j ≢ k → number_at g.d j ≡ number_at f.d j)
       (works : (c : ℕ) → c < height (above_in m) k → number_at g.w (start (above_in m) k + c) ≡ work_there m x f.above sums k c)
@@ -113,20 +132,20 @@ module _ (m : Model) (x : Mass) (is : IsMass m x) (k : ℕ) (in_model : k < m.nv
           | inr q ↦ omega (arith, ap unsigned_abs (later_lowers p q), rows.lower_small p q)
         ]
 
-    pub rows_more : HasRows m x k g
+    pub rows_more : HasRows s m x k g
     rows_more = record {
       pivots = λ j h q. elim (cases_eq j k) [
-        | inl e ↦ subst (λ (y : ℕ). number_at g.d y ≡ pivot m.nv (mass_at m.nv x.m) y) (sym e) (here ∙ is_pivot)
+        | inl e ↦ subst (λ (y : ℕ). number_at g.d y ≡ pivot m.nv (shifted_mass s m x) y) (sym e) (here ∙ is_pivot)
         | inr e ↦ others j e ∙ rows.pivots j (omega arith) q
       ];
       works = λ j i h q r. elim (cases_eq j k) [
-        | inl e ↦ subst (λ (y : ℕ). above_in m i y ≡ true → number_at g.w (start (above_in m) y + height (above_in m) i) ≡ work m.nv (mass_at m.nv x.m) y i) (sym e)
-            (λ t. works (height (above_in m) i) (is_less i t) ∙ work_from_sum (height (above_in m) i) (is_less i t) ∙ ap (λ (y : ℕ). work m.nv (mass_at m.nv x.m) k y) (listed_here i t)) r
+        | inl e ↦ subst (λ (y : ℕ). above_in m i y ≡ true → number_at g.w (start (above_in m) y + height (above_in m) i) ≡ work m.nv (shifted_mass s m x) y i) (sym e)
+            (λ t. works (height (above_in m) i) (is_less i t) ∙ work_from_sum (height (above_in m) i) (is_less i t) ∙ ap (λ (y : ℕ). work m.nv (shifted_mass s m x) k y) (listed_here i t)) r
         | inr e ↦ later_works _ (later j i (omega arith)) ∙ rows.works j i (omega arith) q r
       ];
       lowers = λ j i h q r. elim (cases_eq j k) [
-        | inl e ↦ subst (λ (y : ℕ). above_in m i y ≡ true → number_at g.l (start (above_in m) y + height (above_in m) i) ≡ lower m.nv (mass_at m.nv x.m) y i) (sym e)
-            (λ t. lowers (height (above_in m) i) (is_less i t) ∙ lower_from_sum d is_pivot (height (above_in m) i) (is_less i t) ∙ ap (λ (y : ℕ). lower m.nv (mass_at m.nv x.m) k y) (listed_here i t)) r
+        | inl e ↦ subst (λ (y : ℕ). above_in m i y ≡ true → number_at g.l (start (above_in m) y + height (above_in m) i) ≡ lower m.nv (shifted_mass s m x) y i) (sym e)
+            (λ t. lowers (height (above_in m) i) (is_less i t) ∙ lower_from_sum d is_pivot (height (above_in m) i) (is_less i t) ∙ ap (λ (y : ℕ). lower m.nv (shifted_mass s m x) k y) (listed_here i t)) r
         | inr e ↦ later_lowers _ (later j i (omega arith)) ∙ rows.lowers j i (omega arith) q r
       ];
       work_small = work_small;
@@ -145,8 +164,8 @@ module _ (m : Model) (x : Mass) (is : IsMass m x) (k : ℕ) (in_model : k < m.nv
 past_small : {F : ℕ} (limit p : ℕ) (xs : List (Number (Unit {0}) F)) → length xs ≡ p → SmallFrom limit p (number_at xs)
 past_small limit p xs e = λ q h. omega (arith, ap (λ (y : Number (Unit {0}) _). unsigned_abs y.mid) (get_or_past xs q (plain (pos 0)) (omega arith)))
 
-pub rows_begin : (m : Model) (x : Mass) (f : Factor) → FactorRoom m f → HasRows m x m.nv f
-rows_begin m x f room = record {
+pub rows_begin : (s : ℤ) (m : Model) (x : Mass) (f : Factor) → FactorRoom m f → HasRows s m x m.nv f
+rows_begin s m x f room = record {
   pivots = λ j h q. absurd (omega arith);
   works = λ j i h q r. absurd (omega arith);
   lowers = λ j i h q r. absurd (omega arith);
@@ -156,7 +175,7 @@ rows_begin m x f room = record {
   most = λ j h q. absurd (omega arith);
 }
 
-module _ (m : Model) (x : Mass) (is : IsMass m x) (f : Factor) (room : FactorRoom m f) (rows : HasRows m x 0 f) where
+module _ (s : ℤ) (m : Model) (x : Mass) (is : IsMass m x) (f : Factor) (room : FactorRoom m f) (rows : HasRows s m x 0 f) where
   pub is_factor : IsFactor m f
   is_factor = record {
     room = room;
@@ -176,12 +195,12 @@ module _ (m : Model) (x : Mass) (is : IsMass m x) (f : Factor) (room : FactorRoo
         | inr e ↦ when-false (above_in m i k) _ e ∙ sym (else_none e)
       ]
 
-  pub works_are : (k i : ℕ) → k < m.nv → i < k → entry (above_in m) f.w k i ≡ work m.nv (mass_at m.nv x.m) k i
+  pub works_are : (k i : ℕ) → k < m.nv → i < k → entry (above_in m) f.w k i ≡ work m.nv (shifted_mass s m x) k i
   works_are k i h l =
-      entry_from f.w (work m.nv (mass_at m.nv x.m) k i) k i h (λ e. rows.works k i (omega arith) h e)
-      (work_apart m.nv (mass_at m.nv x.m) (above_in m) (forest_in m) is.apart k i h l)
+      entry_from f.w (work m.nv (shifted_mass s m x) k i) k i h (λ e. rows.works k i (omega arith) h e)
+      (work_apart m.nv (shifted_mass s m x) (above_in m) (forest_in m) (shifted_apart s m x is) k i h l)
 
-  pub lowers_are : (k i : ℕ) → k < m.nv → i < k → entry (above_in m) f.l k i ≡ lower m.nv (mass_at m.nv x.m) k i
+  pub lowers_are : (k i : ℕ) → k < m.nv → i < k → entry (above_in m) f.l k i ≡ lower m.nv (shifted_mass s m x) k i
   lowers_are k i h l =
-      entry_from f.l (lower m.nv (mass_at m.nv x.m) k i) k i h (λ e. rows.lowers k i (omega arith) h e)
-      (lower_apart m.nv (mass_at m.nv x.m) (above_in m) (forest_in m) is.apart k i h l)
+      entry_from f.l (lower m.nv (shifted_mass s m x) k i) k i h (λ e. rows.lowers k i (omega arith) h e)
+      (lower_apart m.nv (shifted_mass s m x) (above_in m) (forest_in m) (shifted_apart s m x is) k i h l)

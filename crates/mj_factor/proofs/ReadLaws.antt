@@ -1,5 +1,5 @@
 -- A factor, a solve and a residual read a matrix, its factor and a right side below n alone: where two agree there, so do these.
-use Rattle.std.proofs.Common.{◌≡◌, ℕ, zero, suc, ◌+◌, ◌-◌, ◌^◌, ◌<◌, ◌≤◌, ℤ, pos, ◌-ℤ◌, ◌*ℤ◌, refl, sym, ap, ap₂, ◌∙◌, arith, unsigned_abs, max, rules, inl, inr}
+use Rattle.std.proofs.Common.{◌≡◌, ℕ, zero, suc, ◌+◌, ◌-◌, ◌^◌, ◌<◌, ◌≤◌, ℤ, pos, ◌-ℤ◌, ◌*ℤ◌, refl, sym, ap, ap₂, ◌∙◌, arith, unsigned_abs, max, rules, add-one, inl, inr}
 use Rattle.std.proofs.lemmas.Bool.{cases_lt}
 use Rattle.fx_whole.specs.First.{or_first}
 use Rattle.fx_whole.specs.Nearest.{nearest}
@@ -91,6 +91,10 @@ module _ (n : ℕ) (l m : ℕ → ℕ → ℤ) (d e s t : ℕ → ℤ) (below : 
       (λ i p. ap₂ (λ x y. or_first (accel_fault i x) (accel_fault i y)) (over-reads i p) (solution-reads i p)))
 
 -- ---- a residual
+-- one more
+pub greatest-more : (n : ℕ) (f : ℕ → ℕ) → greatest_to (n + 1) f ≡ max (greatest_to n f) (f n)
+greatest-more n f = ap (λ (m : ℕ). greatest_to m f) (add-one n)
+
 pub greatest-reads : (n : ℕ) (f g : ℕ → ℕ) → ((i : ℕ) → i < n → f i ≡ g i) → greatest_to n f ≡ greatest_to n g
 greatest-reads zero f g same = refl
 greatest-reads (suc n) f g same = ap₂ max (greatest-reads n f g (λ i h. same i (omega arith))) (same n (omega arith))

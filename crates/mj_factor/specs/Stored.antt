@@ -14,6 +14,7 @@ use Rattle.mj_types.specs.FactorRooms.{FactorRoom}
 use Rattle.mj_types.specs.Forests.{above_in}
 use Rattle.mj_types.specs.Masses.{mass_at}
 use Rattle.mj_types.specs.Parts.{number_at}
+use Rattle.mj_quadratic.specs.Forms.{less_diagonal}
 use Rattle.mj_factor.specs.Factors.{work, lower, pivot}
 
 -- row k and column i of listed entries: at the place of k's list that names i; 0 where i isn't above k
@@ -50,13 +51,17 @@ lower_there m x names sums d k c = quotient (work_there m x names sums k c) d
 abbrev pub SmallFrom : ℕ → ℕ → (ℕ → ℤ) → Type 0
 SmallFrom limit p x = (q : ℕ) → p ≤ q → unsigned_abs (x q) ≤ limit
 
+-- a mass matrix less s on its diagonal
+abbrev pub shifted_mass : ℤ → Model → Mass → ℕ → ℕ → ℤ
+shifted_mass s m x = less_diagonal s (mass_at m.nv x.m)
+
 -- the rows from k on are made
-pub record HasRows (m : Model) (x : Mass) (k : ℕ) (f : Factor) : Type 0 where
-  pub pivots : (j : ℕ) → k ≤ j → j < m.nv → number_at f.d j ≡ pivot m.nv (mass_at m.nv x.m) j
+pub record HasRows (s : ℤ) (m : Model) (x : Mass) (k : ℕ) (f : Factor) : Type 0 where
+  pub pivots : (j : ℕ) → k ≤ j → j < m.nv → number_at f.d j ≡ pivot m.nv (shifted_mass s m x) j
   pub works : (j i : ℕ) → k ≤ j → j < m.nv → above_in m i j ≡ true
-      → number_at f.w (start (above_in m) j + height (above_in m) i) ≡ work m.nv (mass_at m.nv x.m) j i
+      → number_at f.w (start (above_in m) j + height (above_in m) i) ≡ work m.nv (shifted_mass s m x) j i
   pub lowers : (j i : ℕ) → k ≤ j → j < m.nv → above_in m i j ≡ true
-      → number_at f.l (start (above_in m) j + height (above_in m) i) ≡ lower m.nv (mass_at m.nv x.m) j i
+      → number_at f.l (start (above_in m) j + height (above_in m) i) ≡ lower m.nv (shifted_mass s m x) j i
   pub work_small : SmallFrom (2 ^ 60) (start (above_in m) k) (number_at f.w)
   pub lower_small : SmallFrom (2 ^ 48) (start (above_in m) k) (number_at f.l)
   pub least : (j : ℕ) → k ≤ j → j < m.nv → pos (2 ^ 10) ≤ℤ number_at f.d j

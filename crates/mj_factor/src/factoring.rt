@@ -12,7 +12,7 @@ ghost use Rattle.mj_factor.specs.Factors.{work, lower, pivot, pivot_fault, entry
 ghost use Rattle.mj_factor.specs.Stored as spec;
 
 use crate::lists::{begin, height, is_above, named};
-use crate::numbers::{divisor, less, limited, mass_of, no_sums, plus_product, quotient};
+use crate::numbers::{diagonal, divisor, less, limited, mass_of, no_sums, plus_product, quotient};
 use fx_list::Array;
 use fx_num::{Fix, Number, Wide};
 use fx_whole::{Divisor, narrow};
@@ -213,20 +213,27 @@ fn write_entries(
 }
 
 // Makes row `k`, where the later rows are made.
-fn factor_row(model: &Model, mass: &Mass, k: usize, out: &mut Factor) -> Result<(), OutOfRange>
+fn factor_row(
+    model: &Model,
+    mass: &Mass,
+    shift: &Fix<40>,
+    k: usize,
+    out: &mut Factor,
+) -> Result<(), OutOfRange>
     requires mass { masses.IsMass model.now mass.now }
+    requires shift { unsigned_abs shift.now.mid ≤ 2 ^ 60 }
     requires room { FactorRoom model.now out.old }
     requires dof { k < model.now.nv }
-    requires rows { spec.HasRows model.now mass.now (k + 1) out.old }
+    requires rows { spec.HasRows shift.now.mid model.now mass.now (k + 1) out.old }
     ensures room { FactorRoom model.now out.new }
-    ensures rows { OnOk result (spec.HasRows model.now mass.now k out.new) }
+    ensures rows { OnOk result (spec.HasRows shift.now.mid model.now mass.now k out.new) }
     ensures first { refusal_of result
-        ≡ row_fault model.now.nv (masses.mass_at model.now.nv mass.now.m) k }
+        ≡ row_fault model.now.nv (spec.shifted_mass shift.now.mid model.now mass.now) k }
 {
     let mut sums = no_sums();
     add_rows(model, out, k, &mut sums);
     let last = height(model, out, k);
-    let pivot = pivot(k, &mass_of(mass, model.nv, k, k), &sums[last])?;
+    let pivot = pivot(k, &diagonal(mass, model.nv, k, shift), &sums[last])?;
     out.d.put(k, pivot);
     write_entries(model, mass, k, &sums, &divisor(&pivot), out)?;
     Ok(())
@@ -252,8 +259,34 @@ pub fn factor(model: &Model, mass: &Mass, out: &mut Factor) -> Result<(), OutOfR
         → spec.entry (above_in model.now) out.new.l k i
         ≡ lower model.now.nv (masses.mass_at model.now.nv mass.now.m) k i) }
 {
+    factor_less(model, mass, &Number { mid: 0, rad: () }, out)
+}
+
+/// The factor of the mass matrix less `shift` on its diagonal, as `factor` makes it.
+pub fn factor_less(
+    model: &Model,
+    mass: &Mass,
+    shift: &Fix<40>,
+    out: &mut Factor,
+) -> Result<(), OutOfRange>
+    requires mass { masses.IsMass model.now mass.now }
+    requires shift { unsigned_abs shift.now.mid ≤ 2 ^ 60 }
+    requires room { FactorRoom model.now out.old }
+    ensures room { FactorRoom model.now out.new }
+    ensures first { refusal_of result
+        ≡ factor_fault model.now.nv (spec.shifted_mass shift.now.mid model.now mass.now) }
+    ensures ranges { OnOk result (spec.IsFactor model.now out.new) }
+    ensures pivots { OnOk result ((k : ℕ) → k < model.now.nv → number_at out.new.d k
+        ≡ pivot model.now.nv (spec.shifted_mass shift.now.mid model.now mass.now) k) }
+    ensures works { OnOk result ((k i : ℕ) → k < model.now.nv → i < k
+        → spec.entry (above_in model.now) out.new.w k i
+        ≡ work model.now.nv (spec.shifted_mass shift.now.mid model.now mass.now) k i) }
+    ensures lowers { OnOk result ((k i : ℕ) → k < model.now.nv → i < k
+        → spec.entry (above_in model.now) out.new.l k i
+        ≡ lower model.now.nv (spec.shifted_mass shift.now.mid model.now mass.now) k i) }
+{
     for s in 0..model.nv {
-        factor_row(model, mass, model.nv - 1 - s, out)?;
+        factor_row(model, mass, shift, model.nv - 1 - s, out)?;
     }
     Ok(())
 }

@@ -3,12 +3,13 @@
 
 mod factoring;
 pub mod laws;
-mod lists;
+pub mod lists;
 mod numbers;
 mod passes;
 mod residuals;
 mod solving;
 
-pub use factoring::factor;
-pub use residuals::residual;
+pub use factoring::{factor, factor_less};
+pub use numbers::mass_of;
+pub use residuals::{residual, residual_of, row_times};
 pub use solving::{half_solve, half_solve_by, pivot_roots, solve};

@@ -7,7 +7,7 @@ ghost use Rattle.mj_types.specs.Forests.{above_in};
 use mj_types::{Factor, Model};
 
 /// Where the list of dof `k` begins; at `k = nv` where the last list ends.
-pub(crate) fn begin(model: &Model, factor: &Factor, k: usize) -> usize
+pub fn begin(model: &Model, factor: &Factor, k: usize) -> usize
     requires room { FactorRoom model.now factor.now }
     requires dof { k ≤ model.now.nv }
     ensures start { result ≡ start (above_in model.now) k }
@@ -17,7 +17,7 @@ pub(crate) fn begin(model: &Model, factor: &Factor, k: usize) -> usize
 }
 
 /// How many dofs are above dof `k`.
-pub(crate) fn height(model: &Model, factor: &Factor, k: usize) -> usize
+pub fn height(model: &Model, factor: &Factor, k: usize) -> usize
     requires room { FactorRoom model.now factor.now }
     requires dof { k < model.now.nv }
     ensures height { result ≡ height (above_in model.now) k }
@@ -39,7 +39,7 @@ pub(crate) fn named(model: &Model, factor: &Factor, k: usize, c: usize) -> usize
 
 /// Whether dof `i` is above dof `k`: whether the list of `k` names `i` after as many dofs as are
 /// above `i`.
-pub(crate) fn is_above(model: &Model, factor: &Factor, i: usize, k: usize) -> bool
+pub fn is_above(model: &Model, factor: &Factor, i: usize, k: usize) -> bool
     requires room { FactorRoom model.now factor.now }
     requires first { i < model.now.nv }
     requires second { k < model.now.nv }

@@ -1,10 +1,11 @@
 // Exact sums of products, one rounding, and ranges.
-ghost use Rattle.std.specs.Prelude.{◌≡◌, ℕ, pos, length, ◌+◌, ◌*◌, ◌^◌, ◌<◌, ◌≤◌, ◌+ℤ◌, ◌*ℤ◌, ◌≤ℤ◌, ◌<ℤ◌, unsigned_abs, IfOk};
+ghost use Rattle.std.specs.Prelude.{◌≡◌, ℕ, pos, length, ◌+◌, ◌*◌, ◌^◌, ◌<◌, ◌≤◌, ◌+ℤ◌, ◌-ℤ◌, ◌*ℤ◌, ◌≤ℤ◌, ◌<ℤ◌, unsigned_abs, IfOk};
 ghost use Rattle.fx_whole.specs.First.{refusal_of};
 ghost use Rattle.fx_whole.specs.Nearest.{nearest as nearest_lem};
 ghost use Rattle.mj_types.specs.Duals.{wide_at};
 ghost use Rattle.mj_types.specs.Ranges.{limited};
 ghost use Rattle.mj_types.specs.Masses as masses;
+ghost use Rattle.mj_quadratic.specs.Forms.{less_diagonal};
 ghost use Rattle.mj_factor.specs.Solves as solves;
 ghost use Rattle.mj_factor.specs.Stored as spec;
 
@@ -38,7 +39,7 @@ pub(crate) fn plus_product<const A: u32, const B: u32, const P: u32>(
 }
 
 /// Row `i` and column `j` of a mass matrix of width `n`.
-pub(crate) fn mass_of(mass: &Mass, n: usize, i: usize, j: usize) -> Fix<40>
+pub fn mass_of(mass: &Mass, n: usize, i: usize, j: usize) -> Fix<40>
     requires few { n ≤ 64 }
     requires room { length mass.now.m ≡ n * n }
     requires row { i < n }
@@ -47,6 +48,30 @@ pub(crate) fn mass_of(mass: &Mass, n: usize, i: usize, j: usize) -> Fix<40>
 {
     Number {
         mid: mass.m.entry(i * n + j).mid,
+        rad: (),
+    }
+}
+
+/// Row `k` of the diagonal of a mass matrix of width `n`, less `shift`.
+pub(crate) fn diagonal(mass: &Mass, n: usize, k: usize, shift: &Fix<40>) -> Fix<40>
+    requires few { n ≤ 64 }
+    requires room { length mass.now.m ≡ n * n }
+    requires row { k < n }
+    requires mass { unsigned_abs (masses.mass_at n mass.now.m k k) ≤ 2 ^ 60 }
+    requires shift { unsigned_abs shift.now.mid ≤ 2 ^ 60 }
+    ensures { result.mid ≡ less_diagonal shift.now.mid (masses.mass_at n mass.now.m) k k }
+{
+    minus(&mass_of(mass, n, k, k), shift)
+}
+
+// `a - b`.
+fn minus(a: &Fix<40>, b: &Fix<40>) -> Fix<40>
+    requires first { unsigned_abs a.now.mid ≤ 2 ^ 60 }
+    requires second { unsigned_abs b.now.mid ≤ 2 ^ 60 }
+    ensures { result.mid ≡ a.now.mid -ℤ b.now.mid }
+{
+    Number {
+        mid: a.mid - b.mid,
         rad: (),
     }
 }

@@ -10,8 +10,8 @@ use fx_num::{Fix, Wide};
 use fx_whole::{difference, scale_up};
 use mj_types::Mass;
 
-// Row `i` of the mass matrix times `a`.
-fn row_times(mass: &Mass, a: &[Fix<32>], i: usize) -> Wide<72>
+/// Row `i` of the mass matrix times `a`.
+pub fn row_times(mass: &Mass, a: &[Fix<32>], i: usize) -> Wide<72>
     requires few { length a.now ≤ 64 }
     requires room { length mass.now.m ≡ length a.now * length a.now }
     requires mass { (j : ℕ) → j < length a.now
@@ -29,8 +29,8 @@ fn row_times(mass: &Mass, a: &[Fix<32>], i: usize) -> Wide<72>
     sum
 }
 
-// How far row `i` is off.
-fn residual_of(mass: &Mass, a: &[Fix<32>], rhs: &[Fix<32>], i: usize) -> u128
+/// How far row `i` of `M a = rhs` is off, at scale 72.
+pub fn residual_of(mass: &Mass, a: &[Fix<32>], rhs: &[Fix<32>], i: usize) -> u128
     requires few { length a.now ≤ 64 }
     requires room { length mass.now.m ≡ length a.now * length a.now }
     requires mass { (j : ℕ) → j < length a.now

@@ -22,8 +22,8 @@ use Rattle.mj_types.specs.Problems.{forces, place, problem}
 use Rattle.mj_types.specs.StepValues.{dual_values, own}
 use Rattle.mj_pgs.specs.Answer.{answer}
 use Rattle.mj_cert.specs.Certificate.{IsCertificate, certificate_fault}
-use Rattle.mj_own.proofs.CertificateLaws.{bound-same, high-same, low-same}
-use Rattle.mj_own.proofs.SweepLaws.{cost-same, iterate-same, stop-same}
+use Rattle.mj_optimum.proofs.SameCertificates.{bound-same, high-same, low-same}
+use Rattle.mj_optimum.proofs.SameSweeps.{cost-same, iterate-same, stop-same}
 use Rattle.mj_force.specs.Enclosures.{IsEnclosed, enclosure_fault, force_of}
 use Rattle.mj_force.proofs.FaultLaws.{answer-same, certificate_fault-same}
 use Rattle.mj_force.proofs.OwnLaws.{own-place, own-rows}

@@ -11,12 +11,13 @@ use Rattle.mj_optimum.specs.declared.stop.Stop.TheVariants.{NoRows, Limit}
 use Rattle.mj_types.specs.declared.range.OutOfRange.{OutOfRange}
 use Rattle.mj_types.specs.declared.range.Quantity.TheVariants as kind
 use Rattle.mj_types.specs.Ranges.{limited}
-use Rattle.mj_pgs.specs.Answer.{answer, cost_fault, ending, or_end, pass_fault, refused, row_fault, stopped, sweep_fault}
+use Rattle.mj_pgs.specs.Answer.{answer, ending, or_end, pass_fault, refused, row_fault, stopped, sweep_fault}
+use Rattle.mj_cost.specs.Costs.{cost_fault}
 use Rattle.mj_cert.specs.Certificate.{box_fault, certificate_fault, shortfall_fault}
-use Rattle.mj_own.specs.Agreement.{HaveSameRows}
-use Rattle.mj_own.proofs.Counts.{first-same}
-use Rattle.mj_own.proofs.SweepLaws.{iterate-same, pass-same, put-same, reach-same, stop_after-same, sweep-same, update-same}
-use Rattle.mj_own.proofs.CertificateLaws.{pull_to-same, rise_down-same, rise_up-same, shortfall_to-same, weight_to-same}
+use Rattle.mj_optimum.specs.Agreement.{HaveSameRows}
+use Rattle.mj_optimum.proofs.SameCounts.{first-same}
+use Rattle.mj_optimum.proofs.SameSweeps.{iterate-same, pass-same, put-same, reach-same, stop_after-same, sweep-same, update-same}
+use Rattle.mj_optimum.proofs.SameCertificates.{pull_to-same, rise_down-same, rise_up-same, shortfall_to-same, weight_to-same}
 
 -- the rows have the same numbers in the list of rows
 abbrev pub AreNumberedAlike : Problem → (ℕ → ℕ) → (ℕ → ℕ) → Type 0

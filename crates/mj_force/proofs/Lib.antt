@@ -2,7 +2,8 @@
 -- Those that a public call of src/laws.rt states are marked by a star.
 --
 -- FaultLaws, of two problems that have the same rows, whose places are the same too
---   row_fault-, pass_fault-, cost_fault-, sweep_fault-, ending-, answer-same      (mj_pgs specs/Answer)
+--   row_fault-, pass_fault-, sweep_fault-, ending-, answer-same      (mj_pgs specs/Answer)
+--   cost_fault-same             (mj_cost specs/Costs)
 --   certificate_fault-same      (mj_cert specs/Certificate)
 --
 -- OwnLaws, of a dual's numbers of its own rows

@@ -9,8 +9,8 @@ use Rattle.mj_types.specs.Problems.{IsSolvable, place, problem}
 use Rattle.mj_types.specs.StepValues.{dual_values, own}
 use Rattle.mj_pgs.proofs.SweepLaws.{holds_zero}
 use Rattle.mj_types.proofs.DualLaws.{regular}
-use Rattle.mj_own.specs.Agreement.{HaveSameRows}
-use Rattle.mj_own.proofs.PromiseLaws.{feasible-over, regular-over}
+use Rattle.mj_optimum.specs.Agreement.{HaveSameRows}
+use Rattle.mj_optimum.proofs.SamePromises.{feasible-over, regular-over}
 use Rattle.mj_force.proofs.FaultLaws.{AreNumberedAlike}
 
 pub own-rows : (p : Problem) → HaveSameRows p (own p)

@@ -7,7 +7,7 @@ ghost use Rattle.mj_optimum.specs.Box.{hi, lo};
 ghost use Rattle.mj_types.specs.declared.dual.Dual.{Dual};
 ghost use Rattle.mj_types.specs.Problems.{IsSolvable};
 ghost use Rattle.mj_types.specs.StepValues.{dual_values, own};
-ghost use Rattle.mj_own.specs.Agreement.{HaveSameRows};
+ghost use Rattle.mj_optimum.specs.Agreement.{HaveSameRows};
 ghost use Rattle.mj_force.specs.Enclosures.{IsEnclosed, force_of};
 
 /// What a problem holds past its rows and dofs counts for nothing.

@@ -1,9 +1,10 @@
 -- The mass matrix by composite inertias is the one by sums over all bodies, within its ranges, and its radii cover what isn't rounded.
-use Rattle.std.proofs.Common.{◌≡◌, ◌==◌, ◌&&◌, ℕ, suc, ◌+◌, ◌-◌, ◌*◌, ◌^◌, ◌<◌, ◌≤◌, Bool, true, false, ◌||◌, cond, ℤ, pos, ◌-ℤ◌, ◌*ℤ◌, unsigned_abs, List, length, None, refl, sym, ap, ap₂, ◌∙◌, subst, arith, inl, inr, le_of_mul-le-mul_right, pow_pos}
+use Rattle.std.proofs.Common.{◌≡◌, ◌==◌, ◌&&◌, ℕ, suc, ◌+◌, ◌-◌, ◌*◌, ◌^◌, ◌<◌, ◌≤◌, Bool, true, false, ◌||◌, cond, ℤ, pos, ◌+ℤ◌, ◌-ℤ◌, ◌*ℤ◌, unsigned_abs, List, length, Option, None, refl, sym, ap, ap₂, ◌∙◌, subst, arith, inl, inr, le_of_mul-le-mul_right, pow_pos}
 use Rattle.std.proofs.lemmas.Bool.{cases_eq, cases_lt, cases_Bool, cond-true, cond-false, eq-eqb, ne_eqb, lt-ltb, leb-true}
 use Rattle.std.proofs.lemmas.Int.{ints, unsigned_abs-mul}
 use Rattle.fx_whole.specs.Adding.{sum_in, when_in, integers}
 use Rattle.fx_whole.specs.First.{or_first, first_to}
+use Rattle.fx_whole.proofs.SumLaws.{when-false}
 use Rattle.fx_whole.proofs.AddingLaws.{sum_in-ext, when_in-map}
 use Rattle.fx_whole.proofs.FirstLaws.{first_none, first_ext, or_both}
 use Rattle.fx_whole.proofs.Ring.{ring}
@@ -23,15 +24,16 @@ use Rattle.mj_tree.proofs.BodyLaws.{above_itself, above_at}
 use Rattle.mj_types.specs.declared.carriers.Composite.{Composite}
 use Rattle.mj_types.specs.declared.carriers.Mass.{Mass}
 use Rattle.mj_types.specs.declared.model.Model.{Model}
+use Rattle.mj_types.specs.declared.range.OutOfRange.{OutOfRange}
 use Rattle.mj_types.specs.declared.range.Quantity.TheVariants as kind
 use Rattle.mj_types.specs.Forests.{above_in}
 use Rattle.mj_types.specs.Masses.{IsMass, mass_at, mass_radius_at}
 use Rattle.mj_types.specs.Parts.{parent_of, body_of, first_dof}
-use Rattle.mj_types.specs.Ranges.{unless, is_within}
+use Rattle.mj_types.specs.Ranges.{unless, limited, is_within}
 use Rattle.mj_types.specs.Rooms.{MassRoom}
 use Rattle.mj_types.proofs.LayoutLaws.{is_tree, is_layout}
 use Rattle.mj_inertia.specs.CompositeBodies.{is_under, composite, IsCompositeOf}
-use Rattle.mj_inertia.specs.MassEntries.{moves_in, momentum_sum, momentum, momentum_radius, momentum_fault, rounded_product, rounded_radius, armature, joins, entry, mass_from, radius_from, mass, mass_radius, entry_fault, dof_fault, mass_fault, unrounded}
+use Rattle.mj_inertia.specs.MassEntries.{moves_in, momentum_sum, momentum, momentum_radius, momentum_fault, rounded_product, rounded_radius, armature, joins, entry, mirrored, mass_from, radius_from, mass, mass_radius, entry_fault, dof_fault, mass_fault, unrounded}
 use Rattle.mj_inertia.specs.Written.{joint_momentum, near_entry, near_from, HasEntries}
 use Rattle.mj_inertia.proofs.NumberLaws.{pair_width-le, momentum_radius-le, rounded_radius-le}
 use Rattle.mj_inertia.proofs.WritingLaws.{mirrored-upper, mirrored-lower}
@@ -105,6 +107,20 @@ bodies-order m i j h k =
 -- a climb that ends at a body: that body is at or above where it began
 pub climb-meets : (m : Model) (body at : ℕ) → at ≤ body → (at == body) ≡ at_or_above (parent_of m.bodies) body at
 climb-meets m body at h = above_at (parent_of m.bodies) (is_tree m.bodies m.of_bodies) body at h
+
+-- an entry off the diagonal has no armature
+pub entry-above : (m : Model) (s h : Spatial ℤ) (i j : ℕ) → i < j → rounded_product s h ≡ entry m s h i j
+entry-above m s h i j l =
+    sym (none (rounded_product s h)) ∙ ap (λ (a : ℤ). rounded_product s h +ℤ a) (sym (when-false (i == j) _ (ne_eqb i j (λ e. omega arith))))
+  where
+    none : (x : ℤ) → x +ℤ pos 0 ≡ x
+    none x = omega (arith, ints)
+
+pub fault-above : (m : Model) (column : ℕ → Spatial ℤ) (h : Spatial ℤ) (j i : ℕ) (o : Option OutOfRange) → joins m i j ≡ true → i < j
+    → o ≡ limited kind.Mass (j + 1) (2 ^ 60) (rounded_product (column i) h) → o ≡ entry_fault m column h j i
+fault-above m column h j i o t l e =
+    e ∙ ap (λ (v : ℤ). limited kind.Mass (j + 1) (2 ^ 60) v) (entry-above m (column i) h i j l)
+    ∙ sym (cond-true (joins m i j) (limited kind.Mass (j + 1) (2 ^ 60) (entry m (column i) h i j)) None t)
 
 near-mid : (m : Model) (column sums : ℕ → Spatial ℤ) (i j : ℕ)
     → (near_from m column sums i j).mid ≡ cond (joins m i j) (entry m (column i) (momentum (sums j)) i j) (pos 0)
@@ -287,3 +303,25 @@ covered m column inertia c x is has i j h k t =
     (sym ((by_bodies m column inertia c x is has).upper i j (joins-order m i j t) k ∙ opened m (column i) (momentum s) (momentum_radius s) i j t))
     (lowered (unrounded m column inertia i j) (entry m (column i) (momentum s) i j) (rounded_radius (column i) (momentum s) (momentum_radius s)) (2 ^ 40) (2 ^ 64) (2 ^ 104)
     (pow_pos 40) refl refl (entry_covers m column inertia i j).bound)
+
+-- ---- symmetry: where each of two dofs joins the other they are one
+mirror : {A : Type 0} (p q : Bool) (none x y : A) → (p ≡ true → q ≡ true → x ≡ y) → cond p x (cond q y none) ≡ cond q y (cond p x none)
+mirror true true none x y h = h refl refl
+mirror true false none x y h = refl
+mirror false true none x y h = refl
+mirror false false none x y h = refl
+
+mirrored-symmetric : {A : Type 0} (joins : ℕ → ℕ → Bool) (none : A) (f : ℕ → ℕ → A) (i j : ℕ) → (joins i j ≡ true → joins j i ≡ true → i ≡ j)
+    → mirrored joins none f i j ≡ mirrored joins none f j i
+mirrored-symmetric joins none f i j one = mirror (joins i j) (joins j i) none (f i j) (f j i) (λ h k. ap₂ f (one h k) (sym (one h k)))
+
+one_joined : (m : Model) (i j : ℕ) → joins m i j ≡ true → joins m j i ≡ true → i ≡ j
+one_joined m i j h k =
+    let up : i ≤ j = joins-order m i j h in
+    let down : j ≤ i = joins-order m j i k in
+    omega arith
+
+pub mass_symmetric : (m : Model) (column : ℕ → Spatial ℤ) (inertia : ℕ → Inertia) (i j : ℕ) → mass m column inertia i j ≡ mass m column inertia j i
+unfolding mass
+mass_symmetric m column inertia i j =
+    mirrored-symmetric (joins m) (pos 0) (λ i j. entry m (column i) (momentum (momentum_sum m column inertia j)) i j) i j (one_joined m i j)

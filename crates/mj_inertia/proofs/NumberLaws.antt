@@ -114,17 +114,17 @@ momentum_stops sum w j o e f =
     (f ∙ ap (λ x. over6 (2 ^ 62) (momentum sum) (radii6 settled_radius sum x 32)) e ∙ over6-is (2 ^ 62) (momentum sum) (momentum_radius sum) (momentum_radius-le sum))
 
 -- a small radius is no fault of a product
-pub product_over : (v : ℤ) (r : ℕ) → r ≤ 2 ^ 13 → over (2 ^ 62) v r ≡ over_value (2 ^ 62) v
-product_over v r h =
-    ap (λ b. or_first (over_value (2 ^ 62) v) (cond b (Some Radius) None)) (le-ltb radius_limit r (omega arith)) ∙ none (over_value (2 ^ 62) v)
+pub product_over : (limit : ℕ) (v : ℤ) (r : ℕ) → r ≤ 2 ^ 13 → over limit v r ≡ over_value limit v
+product_over limit v r h =
+    ap (λ b. or_first (over_value limit v) (cond b (Some Radius) None)) (le-ltb radius_limit r (omega arith)) ∙ none (over_value limit v)
   where
     none : (o : Option Over) → or_first o None ≡ o
     none None = refl
     none (Some x) = refl
 
-pub product_first : (x : ℤ) (w : ℕ) (s h : Spatial ℤ) (r : Spatial ℕ) → x ≡ pair s h → w ≡ pair_width s no_size6 h r → w ≤ 6 * 2 ^ 42
-    → over (2 ^ 62) (settled_mid x 32) (settled_radius w (rounding_loss x 32) 32) ≡ over_value (2 ^ 62) (rounded_product s h)
+pub product_first : (limit : ℕ) (x : ℤ) (w : ℕ) (s h : Spatial ℤ) (r : Spatial ℕ) → x ≡ pair s h → w ≡ pair_width s no_size6 h r → w ≤ 6 * 2 ^ 42
+    → over limit (settled_mid x 32) (settled_radius w (rounding_loss x 32) 32) ≡ over_value limit (rounded_product s h)
 unfolding rounded_product rounded_radius
-product_first x w s h r e f l =
-    ap₂ (λ (a : ℤ) (b : ℕ). over (2 ^ 62) (settled_mid a 32) (settled_radius b (rounding_loss a 32) 32)) e f
-    ∙ product_over (rounded_product s h) (rounded_radius s h r) (rounded_radius-le s h r (subst (λ (n : ℕ). n ≤ 6 * 2 ^ 42) f l))
+product_first limit x w s h r e f l =
+    ap₂ (λ (a : ℤ) (b : ℕ). over limit (settled_mid a 32) (settled_radius b (rounding_loss a 32) 32)) e f
+    ∙ product_over limit (rounded_product s h) (rounded_radius s h r) (rounded_radius-le s h r (subst (λ (n : ℕ). n ≤ 6 * 2 ^ 42) f l))

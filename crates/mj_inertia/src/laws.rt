@@ -35,3 +35,9 @@ pub fn radii_cover_unrounded()
         (spec.momentum_radius (spec.momentum_sum m column inertia j)))
         40 (spec.unrounded m column inertia i j) (2 ^ 104) }
 {}
+
+/// The mass matrix is symmetric.
+pub fn mass_is_symmetric()
+    ensures { (m : Model) (column : ℕ → Spatial ℤ) (inertia : ℕ → Inertia) (i j : ℕ)
+        → spec.mass m column inertia i j ≡ spec.mass m column inertia j i }
+{}

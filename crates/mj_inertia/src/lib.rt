@@ -7,5 +7,7 @@ mod matrix;
 mod numbers;
 
 pub use composing::composites;
-pub use laws::{carried_up_is_composite, composite_momentum_is_sum, radii_cover_unrounded};
+pub use laws::{
+    carried_up_is_composite, composite_momentum_is_sum, mass_is_symmetric, radii_cover_unrounded,
+};
 pub use matrix::mass_matrix;

@@ -13,7 +13,7 @@ ghost use Rattle.mj_inertia.specs.CompositeBodies.{IsCompositeOf, AreComposites}
 ghost use Rattle.mj_inertia.specs.MassEntries as spec;
 ghost use Rattle.mj_inertia.specs.Written as written;
 
-use crate::numbers::{entry, momentum};
+use crate::numbers::{entry, entry_above, momentum};
 use fx_list::Array;
 use fx_near::{Band, Near};
 use fx_num::{Fix, Number, Plain};
@@ -94,6 +94,37 @@ fn entry_of(
     }
 }
 
+// `M_ij` with its radius for i before j, from the momentum of dof `j`; 0 where dof `i` isn't above
+// dof `j`.
+fn earlier_entry(
+    model: &Model,
+    column: &[Sp6<Plain, 32>],
+    momentum: &Sp6<Band, 40>,
+    joins: bool,
+    i: usize,
+    j: usize,
+) -> Result<Near<40>, OutOfRange>
+    requires columns { spec.AreColumns model.now column.now }
+    requires momentum { Within6 (spatial momentum.now) (2 ^ 62) }
+    requires radius { Below6 (spatial_radii (λ r. r) momentum.now) 1 }
+    requires joins { joins ≡ spec.joins model.now i j }
+    requires order { i < j }
+    requires dof { j < model.now.nv }
+    ensures value { IfOk result (λ x. x ≡ written.near_entry model.now (spatial_at column.now i)
+        (spatial momentum.now) (spatial_radii (λ r. r) momentum.now) i j) }
+    ensures first { refusal_of result ≡ spec.entry_fault model.now (spatial_at column.now)
+        (spatial momentum.now) j i }
+{
+    if joins {
+        match entry_above(&column[i], momentum, j) {
+            Ok(x) => Ok(x),
+            Err(fault) => Err(fault),
+        }
+    } else {
+        Ok(Number { mid: 0, rad: 0 })
+    }
+}
+
 // Writes `x` in row `i` and column `j` and in row `j` and column `i` of a matrix of width `n`.
 fn put_both(n: usize, i: usize, j: usize, x: Near<40>, out: &mut Array<Near<40>>)
     requires order { i ≤ j }
@@ -130,10 +161,12 @@ fn write_row(
     ensures first { refusal_of result ≡ first_to (j + 1)
         (spec.entry_fault model.now (spatial_at column.now) (spatial momentum.now) j) }
 {
-    for i in 0..j + 1 {
-        let x = entry_of(model, column, momentum, joins[i], i, j)?;
+    for i in 0..j {
+        let x = earlier_entry(model, column, momentum, joins[i], i, j)?;
         put_both(model.nv, i, j, x, &mut out.m);
     }
+    let own = entry_of(model, column, momentum, joins[j], j, j)?;
+    put_both(model.nv, j, j, own, &mut out.m);
     Ok(())
 }
 

@@ -195,6 +195,26 @@ fn rounded_product(column: &Sp6<Plain, 32>, momentum: &Sp6<Band, 40>) -> Result<
     }
 }
 
+// The product of a column and a momentum, rounded to scale 40 with its radius. `Over::Value`
+// exactly where it passes 2^60.
+#[inline(always)]
+fn entry_product(column: &Sp6<Plain, 32>, momentum: &Sp6<Band, 40>) -> Result<Near<40>, Over>
+    requires column { Within6 (spatial column.now) (2 ^ 42) }
+    requires momentum { Within6 (spatial momentum.now) (2 ^ 62) }
+    requires radius { Below6 (spatial_radii (λ r. r) momentum.now) 1 }
+    ensures mid { IfOk result (λ x. x.mid
+        ≡ spec.rounded_product (spatial column.now) (spatial momentum.now)) }
+    ensures rad { IfOk result (λ x. x.rad ≡ spec.rounded_radius (spatial column.now)
+        (spatial momentum.now) (spatial_radii (λ r. r) momentum.now)) }
+    ensures first { refusal_of result ≡ over_value (2 ^ 60)
+        (spec.rounded_product (spatial column.now) (spatial momentum.now)) }
+{
+    match settle::<Band, 72, 40>(product_sum(column, momentum), 1 << 60) {
+        Ok(product) => Ok(product),
+        Err(over) => Err(over),
+    }
+}
+
 // A product with an armature, which is exact. Mass where that passes 2^60.
 fn with_armature(product: &Near<40>, armature: &Fix<40>, j: usize) -> Result<Near<40>, OutOfRange>
     requires dof { j < 64 }
@@ -242,6 +262,33 @@ pub(crate) fn entry(
 {
     match rounded_product(column, momentum) {
         Ok(product) => with_armature(&product, armature, j),
+        Err(_) => Err(OutOfRange {
+            kind: Quantity::Mass,
+            index: j + 1,
+        }),
+    }
+}
+
+/// `M_ij` for dof i above dof j, which has no armature: `entry`, with its limit judged once.
+#[inline(always)]
+pub(crate) fn entry_above(
+    column: &Sp6<Plain, 32>,
+    momentum: &Sp6<Band, 40>,
+    j: usize,
+) -> Result<Near<40>, OutOfRange>
+    requires column { Within6 (spatial column.now) (2 ^ 42) }
+    requires momentum { Within6 (spatial momentum.now) (2 ^ 62) }
+    requires radius { Below6 (spatial_radii (λ r. r) momentum.now) 1 }
+    requires dof { j < 64 }
+    ensures mid { IfOk result (λ x. x.mid
+        ≡ spec.rounded_product (spatial column.now) (spatial momentum.now)) }
+    ensures rad { IfOk result (λ x. x.rad ≡ spec.rounded_radius (spatial column.now)
+        (spatial momentum.now) (spatial_radii (λ r. r) momentum.now)) }
+    ensures first { refusal_of result ≡ limited kind.Mass (j + 1) (2 ^ 60)
+        (spec.rounded_product (spatial column.now) (spatial momentum.now)) }
+{
+    match entry_product(column, momentum) {
+        Ok(product) => Ok(product),
         Err(_) => Err(OutOfRange {
             kind: Quantity::Mass,
             index: j + 1,

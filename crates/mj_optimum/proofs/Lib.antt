@@ -51,6 +51,16 @@
 -- LimitLaws (specs/Limits)
 --   cost_at_least              the cost, by the sums that have a limit
 --
+-- SameCounts, SameSweeps, SameCertificates, SamePromises, of two problems that have the same rows (specs/Agreement)
+--   sum-same, first-same   over two equal counts
+--   turned                 the record the other way round;  row-over: a row of one is a row of the other
+--   reach-, cost- *, gradient-, divisor-, update-, put-same      (specs/Cost, specs/Sweep)
+--   pass-, sweep-, iterate- *, drop-same
+--   stop_after-, stop- *-same  (specs/Stop)
+--   shortfall-, total-, bound- *, left-, rise_up-, rise_down-, low- *, high- *-same      (specs/Shortfall, specs/Box)
+--   weight_to-, pull_to-, shortfall_to-same      (specs/Limits)
+--   regular-, feasible- *, bound_holds- *, box_holds- *-over     what holds of one problem holds of the other
+--
 -- Examples: the definitions at worked examples.
 -- Combining and Tests: sums of combinations, a term below its sum, tests of ℤ.
 pub mod BoundLaws
@@ -62,6 +72,10 @@ pub mod Examples
 pub mod LimitLaws
 pub mod ParabolaLaws
 pub mod RiseLaws
+pub mod SameCertificates
+pub mod SameCounts
+pub mod SamePromises
+pub mod SameSweeps
 pub mod StopLaws
 pub mod SweepLaws
 pub mod Tests

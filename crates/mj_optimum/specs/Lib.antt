@@ -1,3 +1,4 @@
+pub mod Agreement
 pub mod Box
 pub mod Cost
 pub mod Enclosure

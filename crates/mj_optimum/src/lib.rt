@@ -3,6 +3,7 @@
 #![tactic(auto)]
 
 pub mod laws;
+pub mod same;
 pub mod stop;
 
 pub use laws::{
@@ -10,4 +11,5 @@ pub use laws::{
     iterate_is_feasible, one_force_changes, optimum_holds, optimum_is_only, parabola_is_least,
     rise_is_least, rise_past_vertex, shortfall_from_zero, stop_is_first, sweep_lowers_cost,
 };
+pub use same::{same_certificate, same_iterates, same_promises};
 pub use stop::Stop;

@@ -1,6 +1,5 @@
 -- The lemmas of this crate, by file: cite each as Rattle.mj_pgs.proofs.FILE.{NAME}. The definitions are in specs/.
 pub mod BoundLaws
-pub mod CostLaws
 pub mod RowLaws
 pub mod RunLaws
 pub mod ShiftLaws

@@ -4,13 +4,14 @@ use Rattle.fx_whole.specs.First.{or_first, first_to}
 use Rattle.mj_optimum.specs.Problem.{Problem}
 use Rattle.mj_optimum.specs.Cost.{reach}
 use Rattle.mj_optimum.specs.Sweep.{update, after_update, pass, sweep, iterate}
-use Rattle.mj_optimum.specs.Limits.{force_limit, reach_limit, cost_limit, weight_to, pull_to}
+use Rattle.mj_optimum.specs.Limits.{force_limit, reach_limit}
 use Rattle.mj_optimum.specs.Stop.{stop_after}
 use Rattle.mj_optimum.specs.declared.stop.Stop.{Stop}
 use Rattle.mj_optimum.specs.declared.stop.Stop.TheVariants.{NoRows, Limit}
 use Rattle.mj_types.specs.declared.range.OutOfRange.{OutOfRange}
 use Rattle.mj_types.specs.declared.range.Quantity.TheVariants as kind
 use Rattle.mj_types.specs.Ranges.{limited}
+use Rattle.mj_cost.specs.Costs.{cost_fault}
 
 -- ---- the first number past its limit; `place` numbers the rows
 -- in the update of row i: its force, then u
@@ -22,12 +23,6 @@ row_fault p place f i =
 -- in a sweep from f, row by row
 unfoldable pub pass_fault : Problem → (ℕ → ℕ) → (ℕ → ℤ) → Option OutOfRange
 pass_fault p place f = first_to p.m (λ i. row_fault p place (pass p f i) i)
-
--- in the two sums of the cost of f, up to and with row i
-unfoldable pub cost_fault : Problem → (ℕ → ℕ) → (ℕ → ℤ) → ℕ → Option OutOfRange
-cost_fault p place f i =
-    or_first (limited kind.Cost (place i) cost_limit (pos (weight_to p f (i + 1))))
-    (limited kind.Cost (place i) cost_limit (pos (pull_to p f (i + 1))))
 
 -- in a sweep from f, and then in the cost of what it gives
 unfoldable pub sweep_fault : Problem → (ℕ → ℕ) → (ℕ → ℤ) → Option OutOfRange

@@ -5,7 +5,7 @@ use Rattle.fx_whole.specs.declared.reciprocal.Divisor.{Divisor}
 use Rattle.mj_optimum.specs.Cost.{gradient, reach}
 use Rattle.mj_optimum.specs.Problem.{Problem}
 use Rattle.mj_optimum.specs.Sweep.{change, divisor, update}
-use Rattle.mj_optimum.specs.Limits.{cost_limit, reach_limit, weight_to, pull_to}
+use Rattle.mj_optimum.specs.Limits.{reach_limit}
 use Rattle.mj_types.specs.declared.range.OutOfRange.{OutOfRange}
 use Rattle.mj_types.specs.declared.range.Quantity.TheVariants as kind
 use Rattle.mj_types.specs.Ranges.{limited}
@@ -60,10 +60,3 @@ shift_fault row u step k = limited kind.Reach (k + 1) reach_limit (moved row u s
 -- what the update of row i changes the cost of f by
 unfoldable pub change_at : Problem → (ℕ → ℤ) → ℕ → ℤ
 change_at p f i = change (gradient p f i) (divisor p i) (update p f i -ℤ f i)
-
--- the sums of the cost of the rows before n, the second of them over 2^37, each within its limit
-pub record AreSums (p : Problem) (f : ℕ → ℤ) (n w t : ℕ) : Type 0 where
-  pub weight : w ≡ weight_to p f n
-  pub weight_small : w ≤ cost_limit
-  pub pull : 2 ^ 37 * t ≡ pull_to p f n
-  pub pull_small : t ≤ 2 ^ 87

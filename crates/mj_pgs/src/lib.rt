@@ -1,7 +1,6 @@
 //! The solver of a dual: projected Gauss-Seidel in exact integers.
 #![tactic(auto)]
 
-mod cost;
 mod row;
 mod shift;
 mod solver;

@@ -13,9 +13,9 @@ ghost use Rattle.mj_types.specs.Solved.{IsSolved};
 ghost use Rattle.mj_pgs.specs.Answer as spec;
 ghost use Rattle.mj_pgs.specs.Holding.{IsHeld, HaveSamePlaces};
 
-use crate::cost::judge;
 use crate::row::update;
 use fx_num::Wide;
+use mj_cost::judge;
 use mj_types::{Dual, Forces, OutOfRange};
 
 // a + b and -a, in 128 bits.

@@ -3,21 +3,21 @@ ghost use Rattle.std.specs.Prelude.{◌≡◌, ◌+◌, ◌-◌, ◌*◌, ◌<�
 ghost use Rattle.fx_whole.specs.First.{refusal_of};
 ghost use Rattle.mj_io.specs.Sent.{Sent};
 ghost use Rattle.mj_passive.specs.Forces.{AreControls};
-ghost use Rattle.mj_step.specs.Steps.{step_state, step_values, dual_at, step_fault};
+ghost use Rattle.mj_step.specs.Steps.{step_state};
 ghost use Rattle.mj_step.specs.Workspace.{MadeFor};
-ghost use Rattle.mj_trace.specs.Block.{block_text};
-ghost use Rattle.mj_trace.specs.Reports.{HasForces};
 ghost use Rattle.mj_types.specs.States.{Fits};
-ghost use Rattle.mj_types.specs.StepValues.{values_of, dual_values};
 ghost use Rattle.mj_run.specs.Controls as spec;
-ghost use Rattle.mj_run.specs.Run.{asked, start, end_of, done_blocks, trace_text};
+ghost use Rattle.mj_run.specs.Course.{done_blocks, end_of};
+ghost use Rattle.mj_run.specs.Run.{start, course, trace_text};
+ghost use Rattle.mj_run.specs.Told.{told_fault, told_text};
 
+use crate::telling::send_step;
 use fx_list::Array;
 use fx_num::{Fix, Number};
 use mj_io::{Failed, Page, Sink};
 use mj_step::Work;
-use mj_trace::{send_block, send_end, send_header};
-use mj_types::{End, Model, NoMemory, OutOfRange, State, Tape};
+use mj_trace::{send_end, send_header};
+use mj_types::{End, Inverse, Model, NoMemory, OutOfRange, State, Tape, Wants};
 use std::alloc::Global;
 
 /// What drives a run: nothing, so that every control is 0, or a tape.
@@ -63,12 +63,13 @@ fn record_of(tape: &Tape, k: usize) -> &[Fix<32>]
     &values[begin..begin + tape.width]
 }
 
-/// A run under way: its workspace, and the state that it has come to. The fields are public so that
-/// contracts can name them.
+/// A run under way: its workspace, the state that it has come to, and room for the inverse dynamics of
+/// its steps. The fields are public so that contracts can name them.
 #[derive(Drop)]
 pub struct Runner {
     pub work: Work,
     pub state: State,
+    pub inverse: Inverse,
 }
 
 impl Runner {
@@ -77,15 +78,13 @@ impl Runner {
         ensures made { IfOk result (λ r. MadeFor model.now r.work) }
         ensures fits { IfOk result (λ r. Fits model.now r.state) }
         ensures start { IfOk result (λ r. r.state ≡ start model.now) }
+        ensures inverse { IfOk result (λ r. length r.inverse.x ≡ model.now.njmax) }
     {
-        let state = State::new(alloc, model)?;
-        match Work::new(alloc, model) {
-            Ok(work) => Ok(Runner { work, state }),
-            Err(NoMemory) => {
-                drop(state);
-                Err(NoMemory)
-            }
-        }
+        Ok(Runner {
+            work: Work::new(alloc, model)?,
+            state: State::new(alloc, model)?,
+            inverse: Inverse::new(alloc, model)?,
+        })
     }
 }
 
@@ -100,57 +99,6 @@ pub(crate) fn early_end(done: u32, out: &OutOfRange) -> End
     }
 }
 
-// The block of a step that was done, with its dual where that is asked for.
-fn send_done<S: Sink>(sink: &mut S, page: &mut Page, runner: &Runner, step: u32, wants: bool)
-    requires done { IsTrue runner.now.work.is_done }
-    requires accel { length runner.now.work.report.accel ≡ length runner.now.state.v }
-    requires forces { HasForces runner.now.work.report }
-    ensures { Sent S.holds S.faults sink.old page.old
-        (block_text runner.now.work.report.format (length runner.now.state.q)
-        (length runner.now.state.v) step (values_of runner.now.state runner.now.work.report)
-        (asked wants (dual_values runner.now.work.dual))) sink.new page.new }
-{
-    let report = runner.work.report();
-    if wants {
-        let dual = Some(runner.work.dual());
-        send_block(sink, page, step, &runner.state, report, dual);
-    } else {
-        send_block(sink, page, step, &runner.state, report, None);
-    }
-}
-
-// The step after `done` others, and its block where it is done.
-fn send_step<S: Sink>(
-    sink: &mut S,
-    page: &mut Page,
-    model: &Model,
-    runner: &mut Runner,
-    controls: &[Fix<32>],
-    done: u32,
-    wants: bool,
-) -> Result<(), OutOfRange>
-    requires made { MadeFor model.now runner.old.work }
-    requires fits { Fits model.now runner.old.state }
-    requires controls { AreControls model.now controls.now }
-    requires count { done < 2 ^ 32 - 1 }
-    ensures made { MadeFor model.now runner.new.work }
-    ensures fits { Fits model.now runner.new.state }
-    ensures first { refusal_of result
-        ≡ step_fault model.now runner.old.state controls.now }
-    ensures state { IfOk result (λ _. runner.new.state
-        ≡ step_state model.now runner.old.state controls.now) }
-    ensures sent { IfOk result (λ _. Sent S.holds S.faults sink.old page.old
-        (block_text model.now.format model.now.nq model.now.nv (done + 1)
-        (step_values model.now runner.old.state controls.now)
-        (asked wants (dual_at model.now runner.old.state controls.now))) sink.new page.new) }
-    ensures sink { IfErr result (λ _. sink.new ≡ sink.old) }
-    ensures page { IfErr result (λ _. page.new ≡ page.old) }
-{
-    runner.work.step(model, &mut runner.state, controls)?;
-    send_done(sink, page, runner, done + 1, wants);
-    Ok(())
-}
-
 // The steps of a run and their blocks, to the end or to the first refusal. `Failed` where the writing
 // stopped.
 fn send_steps<S: Sink>(
@@ -160,18 +108,19 @@ fn send_steps<S: Sink>(
     runner: &mut Runner,
     controls: &Controls,
     steps: u32,
-    wants: bool,
+    wants: Wants,
 ) -> Result<End, Failed>
     requires made { MadeFor model.now runner.old.work }
     requires fits { Fits model.now runner.old.state }
     requires start { runner.old.state ≡ start model.now }
+    requires inverse { length runner.old.inverse.x ≡ model.now.njmax }
     requires serves { spec.Serves controls.now (length model.now.motors) steps }
-    ensures sent { Sent S.holds S.faults sink.old page.old (done_blocks model.now
-        (spec.controls_at (length model.now.motors) (spec.tape_of controls.now)) wants steps)
+    ensures sent { Sent S.holds S.faults sink.old page.old (done_blocks (course wants
+        model.now (spec.controls_at (length model.now.motors) (spec.tape_of controls.now))) steps)
         sink.new page.new }
     ensures end { MatchResult result
-        (λ end. end ≡ end_of model.now
-        (spec.controls_at (length model.now.motors) (spec.tape_of controls.now)) steps)
+        (λ end. end ≡ end_of (course wants model.now
+        (spec.controls_at (length model.now.motors) (spec.tape_of controls.now))) steps)
         (λ _. page.new.going ≡ false) }
     ensures goes_on { page.old.going ≡ true → IfOk result (λ _. page.new.going ≡ true) }
 {
@@ -189,8 +138,10 @@ fn send_steps<S: Sink>(
 }
 
 /// Runs the model for this many steps from its start and sends the trace: the header, a block for each
-/// step that is done, with its dual where `wants` says so, and the end, which is the answer. `Failed` where
-/// the writing stopped; what was sent is a prefix of the trace.
+/// step that is done, with its dual, a ball around its acceleration and its inverse dynamics where `wants`
+/// says so, and the end, which is the answer. Where the inverse dynamics are wanted, the run also ends at
+/// a step of which one of their numbers is out of range. `Failed` where the writing stopped; what was
+/// sent is a prefix of the trace.
 pub fn send_run<S: Sink>(
     sink: &mut S,
     page: &mut Page,
@@ -198,18 +149,19 @@ pub fn send_run<S: Sink>(
     runner: &mut Runner,
     controls: &Controls,
     steps: u32,
-    wants: bool,
+    wants: Wants,
 ) -> Result<End, Failed>
     requires made { MadeFor model.now runner.old.work }
     requires fits { Fits model.now runner.old.state }
     requires start { runner.old.state ≡ start model.now }
+    requires inverse { length runner.old.inverse.x ≡ model.now.njmax }
     requires serves { spec.Serves controls.now (length model.now.motors) steps }
-    ensures sent { Sent S.holds S.faults sink.old page.old (trace_text model.now
-        (spec.controls_at (length model.now.motors) (spec.tape_of controls.now)) wants steps)
+    ensures sent { Sent S.holds S.faults sink.old page.old (trace_text wants model.now
+        (spec.controls_at (length model.now.motors) (spec.tape_of controls.now)) steps)
         sink.new page.new }
     ensures end { MatchResult result
-        (λ end. end ≡ end_of model.now
-        (spec.controls_at (length model.now.motors) (spec.tape_of controls.now)) steps)
+        (λ end. end ≡ end_of (course wants model.now
+        (spec.controls_at (length model.now.motors) (spec.tape_of controls.now))) steps)
         (λ _. page.new.going ≡ false) }
 {
     send_header(sink, page, model, steps);

@@ -1,20 +1,23 @@
 -- What the forces of a step are worth: the dual of each state is lawful, so that its certificate holds.
-use Rattle.std.proofs.Common.{ℕ, ℤ, pos, List}
+use Rattle.std.proofs.Common.{◌≡◌, ℕ, ℤ, pos, List, sym, subst}
 use Rattle.fx_whole.specs.Entries.{below}
 use Rattle.fx_whole.proofs.EntryLaws.{below-within}
-use Rattle.mj_force.specs.Enclosures.{force_of}
+use Rattle.mj_force.specs.Enclosures.{IsEnclosed, force_of}
 use Rattle.mj_force.proofs.EnclosureLaws.{enclosed}
 use Rattle.mj_kin.specs.Placings.{placing}
 use Rattle.mj_optimum.specs.Box.{lo, hi}
 use Rattle.mj_optimum.specs.Enclosure.{BoxHolds, IsWithin}
 use Rattle.mj_optimum.specs.Feasible.{HoldsZero}
 use Rattle.mj_optimum.specs.Problem.{Problem, IsRegular}
-use Rattle.mj_sound.proofs.DualLaws.{state_dual-regular, state_dual-zero}
+use Rattle.mj_dual.proofs.LawfulLaws.{state_dual-regular, state_dual-zero}
+use Rattle.mj_types.specs.declared.dual.Dual.{Dual}
 use Rattle.mj_types.specs.declared.model.Model.{Model}
+use Rattle.mj_types.specs.declared.rows.StepReport.{StepReport}
 use Rattle.mj_types.specs.declared.state.State.{State}
 use Rattle.mj_types.specs.Control.{Control}
-use Rattle.mj_step.specs.Steps.{dynamics_of, tendon_lengths, constraints_at, dual_at, problem_at, force_at}
-use Rattle.mj_step.specs.Certified.{IsCertified}
+use Rattle.mj_types.specs.StepValues.{StepValues, DualValues, values_of, dual_values}
+use Rattle.mj_step.specs.Steps.{dynamics_of, tendon_lengths, constraints_at, dual_at, problem_at, force_at, step_values}
+use Rattle.mj_step.specs.Certified.{IsCertified, HasCertificate}
 
 regular : (m : Model) (s : State) (u : List Control) → IsRegular (problem_at m s u)
 unfolding dual_at constraints_at
@@ -40,3 +43,10 @@ certified m s u =
       bound_holds = e.bound_holds;
       box_holds = box-told p (force_of p m.tolerance.mid m.iterations) (lo p (force_of p m.tolerance.mid m.iterations)) (hi p (force_of p m.tolerance.mid m.iterations)) e.box_holds;
     }
+
+-- so are a dual and a report that tell what the step tells
+pub told-certified : (m : Model) (s : State) (u : List Control) (next : State) (d : Dual) (r : StepReport) → dual_values d ≡ dual_at m s u → values_of next r ≡ step_values m s u
+    → HasCertificate d r
+told-certified m s u next d r same told =
+    subst (λ (p : DualValues). IsEnclosed p.problem (values_of next r).force (values_of next r).bound (values_of next r).lo (values_of next r).hi) (sym same)
+    (subst (λ (v : StepValues). IsEnclosed (problem_at m s u) v.force v.bound v.lo v.hi) (sym told) (certified m s u))

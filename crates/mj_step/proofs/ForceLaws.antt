@@ -6,15 +6,21 @@ use Rattle.mj_optimum.specs.Cost.{cost}
 use Rattle.mj_optimum.specs.Shortfall.{bound2}
 use Rattle.mj_optimum.specs.Stop.{stop_of}
 use Rattle.mj_types.specs.declared.dual.Dual.{Dual}
+use Rattle.mj_types.specs.declared.dual.Forces.{Forces}
 use Rattle.mj_types.specs.declared.model.Model.{Model}
 use Rattle.mj_types.specs.declared.rows.StepReport.{StepReport}
 use Rattle.mj_types.specs.declared.state.State.{State}
 use Rattle.mj_types.specs.Control.{Control}
 use Rattle.mj_types.specs.Parts.{number_at}
 use Rattle.mj_types.specs.Problems.{forces}
+use Rattle.mj_types.specs.Solved.{IsSolved}
 use Rattle.mj_types.specs.StepValues.{DualValues, dual_values}
 use Rattle.mj_step.specs.Steps.{dual_at, problem_at, force_at}
 use Rattle.mj_step.specs.Workspace.{HasForces}
+
+-- forces that solve a dual, where both are copied
+pub solved-same : (d d' : Dual) (x x' : Forces) → d' ≡ d → x' ≡ x → IsSolved d x → IsSolved d' x'
+solved-same d d' x x' e f h = rw (e, f) h
 
 module _ (m : Model) (s : State) (u : List Control) (d : Dual) (same : dual_values d ≡ dual_at m s u) where
   -- what the solver leaves for the dual is the state's

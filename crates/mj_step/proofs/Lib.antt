@@ -1,7 +1,9 @@
+pub mod BallLaws
 pub mod CertifiedLaws
 pub mod CoverLaws
 pub mod ForceLaws
 pub mod GapLaws
+pub mod MirrorLaws
 pub mod PushLaws
 pub mod Radii
 pub mod RowLaws

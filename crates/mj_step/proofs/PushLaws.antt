@@ -37,10 +37,10 @@ use Rattle.mj_step.specs.Steps.{bias_of, free_load, constraints_at, dynamics_of,
 use Rattle.mj_step.specs.Workspace.{HasRows, CanPush, push_of}
 
 -- ---- the places of a dual's rows
-rows-count : (d : Dual) (x : DualValues) → dual_values d ≡ x → d.m ≡ x.problem.m
+pub rows-count : (d : Dual) (x : DualValues) → dual_values d ≡ x → d.m ≡ x.problem.m
 rows-count d x e = ap (λ (v : DualValues). v.problem.m) e
 
-place-is : (d : Dual) (x : DualValues) → dual_values d ≡ x → (k : ℕ) → k < d.m → place d k ≡ x.place k
+pub place-is : (d : Dual) (x : DualValues) → dual_values d ≡ x → (k : ℕ) → k < d.m → place d k ≡ x.place k
 place-is d x e k h = sym (below-within 0 d.m (place d) k h) ∙ ap (λ (v : DualValues). v.place k) e
 
 place-there : (y : Dynamics) (cs : List Constraint) (k : ℕ) → k < (dual_of y cs).problem.m → (1 ≤ (dual_of y cs).place k) × ((dual_of y cs).place k ≤ length cs)
@@ -81,9 +81,13 @@ dofs-are : (m : Model) (s : State) (u : List Control) → (dynamics_of m s u).mo
 unfolding dynamics_of
 dofs-are m s u = refl
 
+-- what pushes, where its carriers are copied
+pub can_push-same : (nv : ℕ) (rows rows' : Rows) (d d' : Dual) (x x' : Forces) → rows' ≡ rows → d' ≡ d → x' ≡ x → CanPush nv rows d x → CanPush nv rows' d' x'
+can_push-same nv rows rows' d d' x x' e f g h = rw (e, f, g) h
+
 module _ (m : Model) (s : State) (u : List Control) (rows : Rows) (d : Dual) (has : HasRows m s u rows d) where
   -- row k of the dual has its place in the list
-  there : (k : ℕ) → k < d.m → (1 ≤ place d k) × (place d k ≤ length (constraints_at m s))
+  pub there : (k : ℕ) → k < d.m → (1 ≤ place d k) × (place d k ≤ length (constraints_at m s))
   unfolding dual_at
   there k h =
       let e : place d k ≡ (dual_at m s u).place k = place-is d (dual_at m s u) has.dual_ k h in
@@ -92,7 +96,7 @@ module _ (m : Model) (s : State) (u : List Control) (rows : Rows) (d : Dual) (ha
       (omega (arith, e, t.0), omega (arith, e, t.1))
 
   -- and its Jacobian there
-  jacobian-is : (k i : ℕ) → k < d.m → i < m.nv → entry_at m.nv rows.jac.list (place d k - 1) i ≡ (constraint (constraints_at m s) (place d k - 1)).jacobian i
+  pub jacobian-is : (k i : ℕ) → k < d.m → i < m.nv → entry_at m.nv rows.jac.list (place d k - 1) i ≡ (constraint (constraints_at m s) (place d k - 1)).jacobian i
   jacobian-is k i h l = (let t = there k h in has.jacobians.each (place d k - 1) i (omega (arith, t.0, t.1)) l)
 
   pub can_push : (x : Forces) → rows_fault m s u ≡ None → d.m ≤ length x.f → forces x ≡ force_at m s u

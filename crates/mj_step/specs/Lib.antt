@@ -1,4 +1,5 @@
 pub mod Certified
 pub mod Covered
+pub mod Enclosed
 pub mod Steps
 pub mod Workspace

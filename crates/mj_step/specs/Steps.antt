@@ -15,6 +15,7 @@ use Rattle.mj_types.specs.declared.range.OutOfRange.{OutOfRange}
 use Rattle.mj_types.specs.declared.range.Quantity.TheVariants as kind
 use Rattle.mj_types.specs.declared.rows.Row.{Row}
 use Rattle.mj_types.specs.declared.state.State.{State}
+use Rattle.mj_types.specs.declared.wants.Ball.{Ball}
 use Rattle.mj_types.specs.Control.{Control}
 use Rattle.mj_types.specs.Parts.{number_at}
 use Rattle.mj_types.specs.Ranges.{limited}
@@ -28,6 +29,7 @@ use Rattle.mj_passive.specs.Forces.{tau, tendon_length, applied_fault}
 use Rattle.mj_factor.specs.Factors.{lower, pivot, factor_fault}
 use Rattle.mj_factor.specs.Solves.{solution, solve_fault}
 use Rattle.mj_factor.specs.Residuals.{greatest_to, residual_at}
+use Rattle.mj_ball.specs.Shifts.{ball_of}
 use Rattle.mj_contact.specs.Lists.{contact_list, contacts_fault}
 use Rattle.mj_rows.specs.Constraint.{Constraint}
 use Rattle.mj_rows.specs.Constraints.{constraints}
@@ -112,6 +114,10 @@ acceleration m s u = solved m s (load m s u)
 
 unfoldable pub residual_of : Model → State → List Control → ℕ
 residual_of m s u = greatest_to m.nv (residual_at m.nv (mass_of m s) (acceleration m s u) (load m s u))
+
+-- a ball around a that holds each rational solution x of M x = tau - c + J^T f
+unfoldable pub ball_at : Model → State → List Control → Option Ball
+ball_at m s u = ball_of m.nv (mass_of m s) (acceleration m s u) (load m s u)
 
 -- ---- the step
 -- the state after it

@@ -32,6 +32,7 @@ use Rattle.mj_factor.specs.Factors.{lower, pivot}
 use Rattle.mj_factor.specs.Stored.{entry, IsFactor}
 use Rattle.mj_dual.specs.Assembly.{HasJacobians}
 use Rattle.mj_euler.specs.Written.{StateRoom}
+use Rattle.mj_quadratic.specs.Forms.{IsSymmetric}
 use Rattle.mj_step.specs.declared.work.Work.{Work}
 use Rattle.mj_step.specs.Steps.{mass_of, mass_radius_of, bias_of, bias_radius_of, tendon_lengths, constraints_at, rows_at, dual_at, problem_at, force_at, step_values}
 
@@ -42,6 +43,7 @@ pub record MadeFor (m : Model) (w : Work) : Type 0 where
   pub bias : BiasRoom m w.bias
   pub applied : AppliedRoom m w.applied
   pub factor : FactorRoom m w.factor
+  pub spare : FactorRoom m w.spare
   pub contacts : ContactsRoom m w.contacts
   pub free_load : length w.free_load ≡ m.nv
   pub smooth : length w.smooth.items ≡ m.nv
@@ -120,6 +122,13 @@ pub record HasForces (m : Model) (s : State) (u : List Control) (r : StepReport)
   pub low : (i : ℕ) → i < (problem_at m s u).m → number_at r.cert.lo i ≡ lo (problem_at m s u) (force_at m s u) i
   pub high : (i : ℕ) → i < (problem_at m s u).m → number_at r.cert.hi i ≡ hi (problem_at m s u) (force_at m s u) i
   pub small : (k : ℕ) → k < (problem_at m s u).m → unsigned_abs (force_at m s u k) ≤ 2 ^ 50
+
+-- ---- in the end
+-- what a ball around the acceleration asks for
+pub record CanEnclose (m : Model) (x : Mass) (a : List Control) : Type 0 where
+  pub lawful : IsMass m x
+  pub symmetric : IsSymmetric m.nv (mass_at m.nv x.m)
+  pub small : (i : ℕ) → i < m.nv → unsigned_abs (number_at a i) ≤ 2 ^ 56
 
 -- the bound isn't above the cost, and not far below it
 pub record HasGap (c : Cert) : Type 0 where

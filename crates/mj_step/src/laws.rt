@@ -1,7 +1,9 @@
-// What the printed radii, the printed residual and the printed forces of a step are worth.
+// What the printed radii, the printed residual, the printed forces and the printed ball of a step are
+// worth.
 ghost use Rattle.std.specs.Prelude.{List};
 ghost use Rattle.mj_step.specs.Certified.{IsCertified};
 ghost use Rattle.mj_step.specs.Covered.{IsCovered};
+ghost use Rattle.mj_step.specs.Enclosed.{IsInBall};
 ghost use Rattle.mj_types.specs.declared.model.Model.{Model};
 ghost use Rattle.mj_types.specs.declared.state.State.{State};
 ghost use Rattle.mj_types.specs.Control.{Control};
@@ -20,4 +22,9 @@ pub fn steps_are_covered()
 /// lies in the box that it tells.
 pub fn steps_are_certified()
     ensures { (m : Model) (s : State) (u : List Control) → IsCertified m s u }
+{}
+
+/// The ball of a step holds each rational solution of the step's own equation of motion.
+pub fn solutions_are_in_balls()
+    ensures { (m : Model) (s : State) (u : List Control) → IsInBall m s u }
 {}

@@ -6,5 +6,5 @@ mod loading;
 mod report;
 pub mod work;
 
-pub use laws::{steps_are_certified, steps_are_covered};
+pub use laws::{solutions_are_in_balls, steps_are_certified, steps_are_covered};
 pub use work::Work;

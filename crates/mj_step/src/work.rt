@@ -1,17 +1,26 @@
 // The workspace of a run, and one step in it.
-ghost use Rattle.std.specs.Prelude.{◌≡◌, false, is_ok, length, None, IsTrue, IfOk, IfErr};
+ghost use Rattle.std.specs.Prelude.{◌≡◌, ◌^◌, false, is_ok, length, pos, List, None, IsTrue, IfOk, IfErr, IfSome};
 ghost use Rattle.fx_whole.specs.First.{refusal_of};
+ghost use Rattle.mj_types.specs.declared.state.State.{State};
+ghost use Rattle.mj_types.specs.Control.{Control};
 ghost use Rattle.mj_types.specs.States.{Fits};
+ghost use Rattle.mj_types.specs.Solved.{IsSolved};
 ghost use Rattle.mj_types.specs.StepValues.{values_of, dual_values};
+ghost use Rattle.mj_types.specs.Masses.{mass_at};
+ghost use Rattle.mj_types.specs.Parts.{number_at};
 ghost use Rattle.mj_types.specs.BiasRooms.{BiasRoom};
 ghost use Rattle.mj_types.specs.FactorRooms.{FactorRoom};
 ghost use Rattle.mj_types.specs.Problems.{HasRoom};
 ghost use Rattle.mj_types.specs.Rooms.{FramesRoom, CompositeRoom, MassRoom, AppliedRoom, ContactsRoom};
 ghost use Rattle.mj_types.specs.RowRooms.{RowsRoom, ReportRoom};
 ghost use Rattle.mj_euler.specs.Written.{StateRoom};
+ghost use Rattle.mj_quadratic.specs.Balls.{Encloses};
+ghost use Rattle.mj_ball.specs.Shifts.{ball_of};
 ghost use Rattle.mj_passive.specs.Forces.{AreControls, applied_fault};
+ghost use Rattle.mj_step.specs.Certified.{IsCertified, HasCertificate};
+ghost use Rattle.mj_step.specs.Covered.{IsCovered};
 ghost use Rattle.mj_step.specs.Steps as spec;
-ghost use Rattle.mj_step.specs.Workspace.{MadeFor, HasFrames, HasMass, HasBias, HasApplied, HasLoad, HasAcceleration, HasFactor, HasRows, HasForces, HasGap};
+ghost use Rattle.mj_step.specs.Workspace.{MadeFor, HasFrames, HasMass, HasBias, HasApplied, HasLoad, HasAcceleration, HasFactor, HasRows, CanPush, HasForces, CanEnclose, HasGap};
 
 use crate::loading::fill_load;
 use crate::report::{
@@ -20,6 +29,7 @@ use crate::report::{
 use fx_list::Array;
 use fx_near::Band;
 use fx_num::{Fix, Number};
+use mj_ball::ball;
 use mj_bias::bias;
 use mj_contact::contacts;
 use mj_dual::assemble;
@@ -30,16 +40,16 @@ use mj_inertia::{composites, mass_matrix};
 use mj_kin::frames;
 use mj_passive::applied;
 use mj_types::{
-    Applied, Bias, Composite, Contacts, Dual, Factor, Frames, Mass, Model, NoMemory, OutOfRange,
-    Rows, State, StepReport,
+    Applied, Ball, Bias, Composite, Contacts, Dual, Factor, Frames, Mass, Model, NoMemory,
+    OutOfRange, Rows, State, StepReport,
 };
 use std::alloc::Global;
 
 /// All that a run's steps need beside the model and the state. It is made once; a step takes no memory.
 /// The fields are public so that contracts can name them. `free_load` is the force that is applied less
 /// the bias force, and `smooth` the acceleration that it gives; `load` and `accel` are those with the
-/// forces of the constraints. `is_done` says whether the last step was done, so that the report and the
-/// dual are its.
+/// forces of the constraints. `spare` is working room for a ball. `is_done` says whether the last step
+/// was done, so that the report and the dual are its.
 #[derive(Drop)]
 pub struct Work {
     pub frames: Frames,
@@ -48,6 +58,7 @@ pub struct Work {
     pub bias: Bias<Band>,
     pub applied: Applied,
     pub factor: Factor,
+    pub spare: Factor,
     pub contacts: Contacts,
     pub free_load: Array<Fix<32>>,
     pub smooth: Vec<Fix<32>>,
@@ -92,12 +103,13 @@ impl TreeRooms {
     }
 }
 
-// the forces, the factor and the contacts,
+// the forces, the factors and the contacts,
 #[derive(Drop)]
 struct ForceRooms {
     bias: Bias<Band>,
     applied: Applied,
     factor: Factor,
+    spare: Factor,
     contacts: Contacts,
 }
 
@@ -106,12 +118,14 @@ impl ForceRooms {
         ensures bias { IfOk result (λ r. BiasRoom model.now r.bias) }
         ensures applied { IfOk result (λ r. AppliedRoom model.now r.applied) }
         ensures factor { IfOk result (λ r. FactorRoom model.now r.factor) }
+        ensures spare { IfOk result (λ r. FactorRoom model.now r.spare) }
         ensures contacts { IfOk result (λ r. ContactsRoom model.now r.contacts) }
     {
         Ok(ForceRooms {
             bias: Bias::new(alloc, model)?,
             applied: Applied::new(alloc, model)?,
             factor: Factor::new(alloc, model)?,
+            spare: Factor::new(alloc, model)?,
             contacts: Contacts::new(alloc, model)?,
         })
     }
@@ -204,6 +218,7 @@ fn joined(model: &Model, tree: TreeRooms, forces: ForceRooms, last: LastRooms) -
     requires bias { BiasRoom model.now forces.bias }
     requires applied { AppliedRoom model.now forces.applied }
     requires factor { FactorRoom model.now forces.factor }
+    requires spare { FactorRoom model.now forces.spare }
     requires rows { RowsRoom model.now last.rows.rows }
     requires dual { HasRoom model.now.njmax model.now.nv last.rows.dual }
     requires report { ReportRoom model.now last.rows.report }
@@ -225,6 +240,7 @@ fn joined(model: &Model, tree: TreeRooms, forces: ForceRooms, last: LastRooms) -
         bias,
         applied,
         factor,
+        spare,
         contacts,
     } = forces;
     let LastRooms { rows, numbers } = last;
@@ -243,6 +259,7 @@ fn joined(model: &Model, tree: TreeRooms, forces: ForceRooms, last: LastRooms) -
         bias,
         applied,
         factor,
+        spare,
         contacts,
         free_load,
         smooth,
@@ -313,7 +330,19 @@ impl Work {
             (spec.smooth model.now state.old controls.now) self.new.smooth.items) }
         ensures rows { IfOk result (λ _. HasRows model.now state.old controls.now
             self.new.rows self.new.dual) }
+        ensures forces { IfOk result (λ _. CanPush model.now.nv
+            self.new.rows self.new.dual self.new.report.forces) }
+        ensures whole_load { IfOk result (λ _. HasLoad model.now
+            (spec.load model.now state.old controls.now) self.new.load) }
+        ensures accel { IfOk result (λ _. HasAcceleration model.now
+            (spec.acceleration model.now state.old controls.now) self.new.accel.items) }
+        ensures can_enclose { IfOk result (λ _. CanEnclose model.now
+            self.new.mass self.new.accel.items) }
         ensures gap { IfOk result (λ _. HasGap self.new.report.cert) }
+        ensures solved { IfOk result (λ _. IsSolved self.new.dual self.new.report.forces) }
+        ensures enclosed { IfOk result (λ _. HasCertificate self.new.dual self.new.report) }
+        ensures certified { IfOk result (λ _. IsCertified model.now state.old controls.now) }
+        ensures covered { IfOk result (λ _. IsCovered model.now state.old controls.now) }
         ensures kept { IfErr result (λ _. state.new ≡ state.old) }
         ensures flag { self.new.is_done ≡ is_ok result }
     {
@@ -372,6 +401,42 @@ impl Work {
         self.free_load.as_slice()
     }
 
+    /// A ball around the acceleration of the last step, which was done, that holds each rational
+    /// solution of the step's own equation of motion `M x = tau - c + J^T f`; see `mj_ball::ball`.
+    /// What the step told stays. Takes no memory.
+    pub fn ball(&mut self, model: &Model) -> Option<Ball>
+        requires done { IsTrue self.old.is_done }
+        requires made { MadeFor model.now self.old }
+        requires can { CanEnclose model.now self.old.mass self.old.accel.items }
+        ensures made { MadeFor model.now self.new }
+        ensures value { result ≡ ball_of model.now.nv (mass_at model.now.nv self.old.mass.m)
+            (number_at self.old.accel.items) (number_at self.old.load) }
+        ensures encloses { IfSome result (λ b. Encloses model.now.nv
+            (mass_at model.now.nv self.old.mass.m) (number_at self.old.accel.items)
+            (number_at self.old.load) (pos (2 ^ 40)) b.radius) }
+        ensures of_step { (s : State) (u : List Control) → HasMass model.now s self.old.mass
+            → HasAcceleration model.now (spec.acceleration model.now s u) self.old.accel.items
+            → HasLoad model.now (spec.load model.now s u) self.old.load
+            → result ≡ spec.ball_at model.now s u }
+        ensures report { self.new.report ≡ self.old.report }
+        ensures dual { self.new.dual ≡ self.old.dual }
+        ensures rows { self.new.rows ≡ self.old.rows }
+        ensures smooth { self.new.smooth ≡ self.old.smooth }
+        ensures mass { self.new.mass ≡ self.old.mass }
+        ensures free_load { self.new.free_load ≡ self.old.free_load }
+        ensures whole_load { self.new.load ≡ self.old.load }
+        ensures accel { self.new.accel ≡ self.old.accel }
+        ensures flag { self.new.is_done ≡ self.old.is_done }
+    {
+        ball(
+            model,
+            &self.mass,
+            self.accel.as_slice(),
+            self.load.as_slice(),
+            &mut self.spare,
+        )
+    }
+
     // The next state and the report, from a state.
     fn compute(
         &mut self,
@@ -399,7 +464,15 @@ impl Work {
             (spec.smooth model.now state.now controls.now) self.new.smooth.items) }
         ensures rows { IfOk result (λ _. HasRows model.now state.now controls.now
             self.new.rows self.new.dual) }
+        ensures forces { IfOk result (λ _. CanPush model.now.nv
+            self.new.rows self.new.dual self.new.report.forces) }
+        ensures whole_load { IfOk result (λ _. HasLoad model.now
+            (spec.load model.now state.now controls.now) self.new.load) }
+        ensures accel { IfOk result (λ _. HasAcceleration model.now
+            (spec.acceleration model.now state.now controls.now) self.new.accel.items) }
         ensures gap { IfOk result (λ _. HasGap self.new.report.cert) }
+        ensures solved { IfOk result (λ _. IsSolved self.new.dual self.new.report.forces) }
+        ensures enclosed { IfOk result (λ _. HasCertificate self.new.dual self.new.report) }
         ensures flag { self.new.is_done ≡ self.old.is_done }
     {
         self.weigh(model, state)?;
@@ -552,6 +625,7 @@ impl Work {
             ≡ spec.force_fault model.now state.now controls.now }
         ensures forces { IfOk result
             (λ _. HasForces model.now state.now controls.now self.new.report) }
+        ensures solved { IfOk result (λ _. IsSolved self.new.dual self.new.report.forces) }
         ensures mass { self.new.mass ≡ self.old.mass }
         ensures bias { self.new.bias ≡ self.old.bias }
         ensures factor { self.new.factor ≡ self.old.factor }
@@ -589,6 +663,7 @@ impl Work {
             ≡ spec.load_fault model.now state.now controls.now }
         ensures load { IfOk result (λ _. HasLoad model.now
             (spec.load model.now state.now controls.now) self.new.load) }
+        ensures can { CanPush model.now.nv self.old.rows self.old.dual self.old.report.forces }
         ensures mass { self.new.mass ≡ self.old.mass }
         ensures bias { self.new.bias ≡ self.old.bias }
         ensures factor { self.new.factor ≡ self.old.factor }
@@ -699,8 +774,11 @@ impl Work {
         ensures report { values_of self.new.next self.new.report
             ≡ spec.step_values model.now state.now controls.now }
         ensures count { self.new.report.count ≡ length self.new.report.rows.list }
+        ensures forces { self.new.report.forces ≡ self.old.report.forces }
         ensures mass { self.new.mass ≡ self.old.mass }
         ensures load { self.new.free_load ≡ self.old.free_load }
+        ensures whole_load { self.new.load ≡ self.old.load }
+        ensures accel { self.new.accel ≡ self.old.accel }
         ensures smooth { self.new.smooth ≡ self.old.smooth }
         ensures rows { self.new.rows ≡ self.old.rows }
         ensures dual { self.new.dual ≡ self.old.dual }

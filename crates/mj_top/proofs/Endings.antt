@@ -5,6 +5,7 @@ use Rattle.mj_io.proofs.Faults.{Rose-after}
 use Rattle.mj_io.specs.Growth.{Grew}
 use Rattle.mj_io.specs.Sent.{Wrote}
 use Rattle.mj_types.specs.declared.model.Model.{Model}
+use Rattle.mj_types.specs.declared.wants.Wants.{Wants}
 use Rattle.mj_types.specs.declared.range.End.{End}
 use Rattle.mj_types.specs.declared.range.End.TheVariants as finish
 use Rattle.mj_types.specs.declared.status.ModelFault.{ModelFault}
@@ -14,13 +15,14 @@ use Rattle.mj_types.specs.declared.tape.TapeFault.{TapeFault}
 use Rattle.mj_gen.specs.Tape.{tape_text}
 use Rattle.mj_tape.specs.Judging.{TapeValues, tape_verdict}
 use Rattle.mj_run.specs.Controls.{controls_at}
-use Rattle.mj_run.specs.Run.{end_of}
+use Rattle.mj_run.specs.Course as courses
+use Rattle.mj_run.specs.Run.{course, end_of}
 use Rattle.mj_valid.specs.Judging.{told, judged_bytes}
 use Rattle.mj_words.specs.declared.table.Command.{Command}
 use Rattle.mj_words.specs.declared.table.Command.TheVariants as command
-use Rattle.mj_words.specs.Words.{bad_place, command_of, model_of, step_count, tape_of, wants_dual}
-use Rattle.mj_top.specs.Outcome.{Outcome, IsOutcome, IsFileOutcome, IsCommandOutcome, IsWordsOutcome, words_refused, status_of, tape_room, with_summed_tape, bench_of, IsBenchOutcome, with_tape, with_tape_file, with_tape_name, with_model, model_cap}
-use Rattle.mj_top.specs.Ends.{Answers, LeavesSink, HasCause, Completes, RunReadRose, BatchReadRose, CommandReadRose, ReadRose, TapeRose, HasLaterCause, Ends, EndsOrMemory, EndsMeant, unless_failed}
+use Rattle.mj_words.specs.Words.{bad_place, command_of, model_of, step_count, tape_of}
+use Rattle.mj_top.specs.Outcome.{IsRunOutcome, wants_of, Outcome, IsOutcome, IsFileOutcome, IsCommandOutcome, IsWordsOutcome, words_refused, status_of, tape_room, with_summed_tape, bench_of, IsBenchOutcome, with_tape, with_tape_file, with_tape_name, with_model, model_cap}
+use Rattle.mj_top.specs.Ends.{IsRun, Answers, LeavesSink, HasCause, Completes, RunReadRose, BatchReadRose, CommandReadRose, ReadRose, TapeRose, HasLaterCause, Ends, EndsOrMemory, EndsMeant, unless_failed}
 
 -- a status that tells of an outcome, and of no fault
 abbrev pub IsTold : Status → Type 0
@@ -42,8 +44,8 @@ pub later-status_of : (end : End) → IsLater (status_of end)
 later-status_of finish.Done = tt
 later-status_of (finish.OutOfRange step kind index) = tt
 
-pub later-with_tape : (wants : Bool) (n : ℕ) (m : Model) (answer : Result TapeValues TapeFault) → IsLater (with_tape wants n m answer).status
-later-with_tape wants n m (Ok tape) = later-status_of (end_of m (controls_at (length m.motors) (Some tape)) n)
+pub later-with_tape : (wants : Wants) (n : ℕ) (m : Model) (answer : Result TapeValues TapeFault) → IsLater (with_tape wants n m answer).status
+later-with_tape wants n m (Ok tape) = later-status_of (courses.end_of (course wants m (controls_at (length m.motors) (Some tape))) n)
 later-with_tape wants n m (Err fault) = tt
 
 -- an answer with its cause is the outcome's where no count rose
@@ -52,6 +54,7 @@ completes words tells held status.Done old new reads reads' writes writes' answe
 completes words tells held (status.BadWords at) old new reads reads' writes writes' answers cause quiet silent = inr (answers.0, answers.1, answers.2.same)
 completes words tells held (status.OutOfRange step kind index) old new reads reads' writes writes' answers cause quiet silent = inr (answers.0, answers.1, answers.2.same)
 completes words tells held (status.BadModel fault) old new reads reads' writes writes' answers cause quiet silent = inr (answers.0, answers.1, answers.2.same)
+completes words tells held (status.Rejected line reason) old new reads reads' writes writes' answers cause quiet silent = inr (answers.0, answers.1, answers.2.same)
 completes words tells held (status.BadTape tape fault) old new reads reads' writes writes' answers cause quiet silent = inr (answers.0, answers.1, answers.2.same)
 completes words tells held status.ReadFault old new reads reads' writes writes' answers cause quiet silent = absurd (quiet cause.1)
 completes words tells held status.WriteFault old new reads reads' writes writes' answers cause quiet silent = absurd (silent cause)
@@ -63,6 +66,7 @@ answers-within Meant Wider status.Done old new within answers = (answers.0, with
 answers-within Meant Wider (status.BadWords at) old new within answers = (answers.0, within answers.0 answers.1, answers.2)
 answers-within Meant Wider (status.OutOfRange step kind index) old new within answers = (answers.0, within answers.0 answers.1, answers.2)
 answers-within Meant Wider (status.BadModel fault) old new within answers = (answers.0, within answers.0 answers.1, answers.2)
+answers-within Meant Wider (status.Rejected line reason) old new within answers = (answers.0, within answers.0 answers.1, answers.2)
 answers-within Meant Wider (status.BadTape tape fault) old new within answers = (answers.0, within answers.0 answers.1, answers.2)
 answers-within Meant Wider status.ReadFault old new within answers = answers
 answers-within Meant Wider status.WriteFault old new within answers = (answers.0, within answers.0 answers.1, answers.2)
@@ -75,6 +79,7 @@ module _ {K : Type 0} (holds : K → Option (List ℕ)) (faults : K → ℕ) (a 
   ends_whole outcome (status.BadWords at) told e grew calm = (record { same = e; grew = grew }, calm)
   ends_whole outcome (status.OutOfRange step kind index) told e grew calm = (record { same = e; grew = grew }, calm)
   ends_whole outcome (status.BadModel fault) told e grew calm = (record { same = e; grew = grew }, calm)
+  ends_whole outcome (status.Rejected line reason) told e grew calm = (record { same = e; grew = grew }, calm)
   ends_whole outcome (status.BadTape tape fault) told e grew calm = (record { same = e; grew = grew }, calm)
   ends_whole outcome status.ReadFault told e grew calm = told
   ends_whole outcome status.WriteFault told e grew calm = absurd told
@@ -95,6 +100,7 @@ module _ {K : Type 0} (holds : K → Option (List ℕ)) (faults : K → ℕ) (a 
   answers-from_ends Meant outcome (status.BadWords at) e ends = (outcome, e, ends.0)
   answers-from_ends Meant outcome (status.OutOfRange step kind index) e ends = (outcome, e, ends.0)
   answers-from_ends Meant outcome (status.BadModel fault) e ends = (outcome, e, ends.0)
+  answers-from_ends Meant outcome (status.Rejected line reason) e ends = (outcome, e, ends.0)
   answers-from_ends Meant outcome (status.BadTape tape fault) e ends = (outcome, e, ends.0)
   answers-from_ends Meant outcome status.ReadFault e ends = absurd ends
   answers-from_ends Meant outcome status.WriteFault e ends = (outcome, e, ends.0)
@@ -112,6 +118,7 @@ module _ {K : Type 0} (holds : K → Option (List ℕ)) (faults : K → ℕ) (a 
   leaves-from_ends outcome (status.BadWords at) ends = ends.1
   leaves-from_ends outcome (status.OutOfRange step kind index) ends = ends.1
   leaves-from_ends outcome (status.BadModel fault) ends = ends.1
+  leaves-from_ends outcome (status.Rejected line reason) ends = ends.1
   leaves-from_ends outcome (status.BadTape tape fault) ends = ends.1
   leaves-from_ends outcome status.ReadFault ends = absurd ends
   leaves-from_ends outcome status.WriteFault ends = tt
@@ -129,6 +136,7 @@ module _ {K : Type 0} (holds : K → Option (List ℕ)) (faults : K → ℕ) (a 
   cause-from_refused words tells held at (status.BadWords there) reads reads' bad ends = let e = ends.0.same in let same : there ≡ at = cc in bad ∙ ap Some (sym same)
   cause-from_refused words tells held at (status.OutOfRange step kind index) reads reads' bad ends = absurd (let e = ends.0.same in cc)
   cause-from_refused words tells held at (status.BadModel fault) reads reads' bad ends = absurd (let e = ends.0.same in cc)
+  cause-from_refused words tells held at (status.Rejected line reason) reads reads' bad ends = absurd (let e = ends.0.same in cc)
   cause-from_refused words tells held at (status.BadTape tape fault) reads reads' bad ends = absurd (let e = ends.0.same in cc)
   cause-from_refused words tells held at status.ReadFault reads reads' bad ends = absurd ends
   cause-from_refused words tells held at status.WriteFault reads reads' bad ends = ends.1
@@ -140,6 +148,7 @@ module _ {K : Type 0} (holds : K → Option (List ℕ)) (faults : K → ℕ) (a 
   later_cause-from_ends Read outcome (status.BadWords at) later ends = let P = λ (s : Status). IsLater s in subst P (sym ends.0.same) later
   later_cause-from_ends Read outcome (status.OutOfRange step kind index) later ends = tt
   later_cause-from_ends Read outcome (status.BadModel fault) later ends = tt
+  later_cause-from_ends Read outcome (status.Rejected line reason) later ends = tt
   later_cause-from_ends Read outcome (status.BadTape number fault) later ends = tt
   later_cause-from_ends Read outcome status.ReadFault later ends = absurd ends
   later_cause-from_ends Read outcome status.WriteFault later ends = ends.1
@@ -194,6 +203,7 @@ cause-from_later words tells held Read status.Done reads reads' writes writes' g
 cause-from_later words tells held Read (status.BadWords at) reads reads' writes writes' good rose cause = absurd cause
 cause-from_later words tells held Read (status.OutOfRange step kind index) reads reads' writes writes' good rose cause = good
 cause-from_later words tells held Read (status.BadModel fault) reads reads' writes writes' good rose cause = good
+cause-from_later words tells held Read (status.Rejected line reason) reads reads' writes writes' good rose cause = good
 cause-from_later words tells held Read (status.BadTape number fault) reads reads' writes writes' good rose cause = good
 cause-from_later words tells held Read status.ReadFault reads reads' writes writes' good rose cause = (good, rose cause refl)
 cause-from_later words tells held Read status.WriteFault reads reads' writes writes' good rose cause = cause
@@ -205,6 +215,7 @@ later_cause-within Read Wider status.Done writes writes' wider cause = tt
 later_cause-within Read Wider (status.BadWords at) writes writes' wider cause = cause
 later_cause-within Read Wider (status.OutOfRange step kind index) writes writes' wider cause = tt
 later_cause-within Read Wider (status.BadModel fault) writes writes' wider cause = tt
+later_cause-within Read Wider (status.Rejected line reason) writes writes' wider cause = tt
 later_cause-within Read Wider (status.BadTape number fault) writes writes' wider cause = tt
 later_cause-within Read Wider status.ReadFault writes writes' wider cause = wider cause
 later_cause-within Read Wider status.WriteFault writes writes' wider cause = cause
@@ -216,12 +227,12 @@ tape_rose-earlier tape reads between reads' later rose =
     let n = rose.0 in (n, rose.1, Rose-after (reads n) (between n) (reads' n) (later n) rose.2)
 
 -- ---- outcomes are the same for files that are held alike
-with_tape_name-same : (held held' : List ℕ → Option (List ℕ)) (wants : Bool) (n : ℕ) (m : Model) (tape : Option (List ℕ)) → ((name : List ℕ) → held' name ≡ held name)
+with_tape_name-same : (held held' : List ℕ → Option (List ℕ)) (wants : Wants) (n : ℕ) (m : Model) (tape : Option (List ℕ)) → ((name : List ℕ) → held' name ≡ held name)
     → with_tape_name held' wants n m tape ≡ with_tape_name held wants n m tape
 with_tape_name-same held held' wants n m None same = refl
 with_tape_name-same held held' wants n m (Some name) same = ap (option_map (with_tape_file wants n m)) (same name)
 
-with_model-same : (held held' : List ℕ → Option (List ℕ)) (wants : Bool) (n : ℕ) (tape : Option (List ℕ)) (judged : Result Model ModelFault) → ((name : List ℕ) → held' name ≡ held name)
+with_model-same : (held held' : List ℕ → Option (List ℕ)) (wants : Wants) (n : ℕ) (tape : Option (List ℕ)) (judged : Result Model ModelFault) → ((name : List ℕ) → held' name ≡ held name)
     → with_model held' wants n tape judged ≡ with_model held wants n tape judged
 with_model-same held held' wants n tape (Ok m) same = with_tape_name-same held held' wants n m tape same
 with_model-same held held' wants n tape (Err fault) same = refl
@@ -233,17 +244,24 @@ outcome-is words held kind o good is meant =
     let Q = λ (k : Command). IsCommandOutcome held k words o in
     subst P (sym good) (subst Q (sym is) meant)
 
+-- those of a run
+run_outcome-is : (words : List (List ℕ)) (held : List ℕ → Option (List ℕ)) (o : Outcome) → bad_place words ≡ None → IsRun (command_of words) → IsRunOutcome held words o → IsOutcome words held o
+run_outcome-is words held o good (inl run) meant = outcome-is words held command.Run o good run meant
+run_outcome-is words held o good (inr inverse) meant = outcome-is words held command.Inverse o good inverse meant
+
 -- the outcome of the model's file is that of a run
-pub file_outcome-is : (words : List (List ℕ)) (held held' : List ℕ → Option (List ℕ)) (file bytes : List ℕ) → bad_place words ≡ None → command_of words ≡ command.Run → ((name : List ℕ) → held' name ≡ held name) → held (model_of words) ≡ Some file → bytes ≡ take model_cap file → (o : Outcome) → IsFileOutcome held' (wants_dual words) (step_count words) (tape_of words) bytes o → IsOutcome words held o
+pub file_outcome-is : (words : List (List ℕ)) (held held' : List ℕ → Option (List ℕ)) (file bytes : List ℕ) → bad_place words ≡ None → IsRun (command_of words) → ((name : List ℕ) → held' name ≡ held name) → held (model_of words) ≡ Some file → bytes ≡ take model_cap file → (o : Outcome) → IsFileOutcome held' (wants_of words) (step_count words) (tape_of words) bytes o → IsOutcome words held o
 file_outcome-is words held held' file bytes good run same kept e o meant =
     let Q = λ (b : List ℕ). told meant.0 ≡ judged_bytes b in
-    outcome-is words held command.Run o good run
-    (file, kept, (meant.0, subst Q e meant.1, sym (with_model-same held held' (wants_dual words) (step_count words) (tape_of words) meant.0 same) ∙ meant.2))
+    run_outcome-is words held o good run
+    (file, kept, (meant.0, subst Q e meant.1, sym (with_model-same held held' (wants_of words) (step_count words) (tape_of words) meant.0 same) ∙ meant.2))
 
 -- a read that failed in a run failed in the command
-pub run_read-rose : (words : List (List ℕ)) (tells : Bool) (held : List ℕ → Option (List ℕ)) (reads reads' : List ℕ → ℕ) → command_of words ≡ command.Run → RunReadRose words tells held reads reads' → ReadRose words tells held reads reads'
-run_read-rose words tells held reads reads' run rose =
+pub run_read-rose : (words : List (List ℕ)) (tells : Bool) (held : List ℕ → Option (List ℕ)) (reads reads' : List ℕ → ℕ) → IsRun (command_of words) → RunReadRose words tells held reads reads' → ReadRose words tells held reads reads'
+run_read-rose words tells held reads reads' (inl run) rose =
     let P = λ (k : Command). CommandReadRose k words tells held reads reads' in subst P (sym run) rose
+run_read-rose words tells held reads reads' (inr inverse) rose =
+    let P = λ (k : Command). CommandReadRose k words tells held reads reads' in subst P (sym inverse) rose
 
 -- the same of a batch
 pub batch_read-rose : (words : List (List ℕ)) (tells : Bool) (held : List ℕ → Option (List ℕ)) (reads reads' : List ℕ → ℕ) → command_of words ≡ command.Batch → BatchReadRose words tells held reads reads' → ReadRose words tells held reads reads'

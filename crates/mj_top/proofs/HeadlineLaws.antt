@@ -5,6 +5,7 @@ use Rattle.fx_whole.proofs.FirstLaws.{first_none, first_some}
 use Rattle.mj_io.specs.Growth.{Grew}
 use Rattle.mj_types.specs.Control.{Control}
 use Rattle.mj_types.specs.declared.model.Model.{Model}
+use Rattle.mj_types.specs.declared.wants.Wants.{Wants}
 use Rattle.mj_types.specs.declared.range.OutOfRange.{OutOfRange}
 use Rattle.mj_types.specs.declared.range.End.{End}
 use Rattle.mj_types.specs.declared.range.End.TheVariants as finish
@@ -18,19 +19,24 @@ use Rattle.mj_gen.specs.Chain.{chain_text}
 use Rattle.mj_tape.specs.Judging.{TapeValues, tape_verdict}
 use Rattle.mj_step.specs.Certified.{IsCertified}
 use Rattle.mj_step.specs.Covered.{IsCovered}
+use Rattle.mj_step.specs.Enclosed.{IsInBall}
+use Rattle.mj_run.specs.Told.{AreBest}
 use Rattle.mj_run.specs.Batch.{tape_at, driven_by, batch_end}
 use Rattle.mj_run.specs.Controls.{controls_at}
-use Rattle.mj_run.specs.Run.{state_at, refusal_at, done_of, end_of}
-use Rattle.mj_run.proofs.Steps.{done-whole, done-early}
+use Rattle.mj_run.specs.Course as courses
+use Rattle.mj_run.specs.Run.{state_at, refusal_at, done_of, end_of, course}
+use Rattle.mj_run.specs.Course.{done_by}
+use Rattle.mj_run.proofs.CourseLaws.{done-whole, done-early}
+use Rattle.mj_run.proofs.Steps.{told-none}
 use Rattle.mj_valid.specs.Judging.{told, judged_bytes}
 use Rattle.mj_words.specs.declared.table.Command.{Command}
 use Rattle.mj_words.specs.declared.table.Command.TheVariants as command
-use Rattle.mj_words.specs.Words.{bad_place, command_of, model_of, step_count, tape_of, wants_dual, seed_of, link_count}
-use Rattle.mj_top.specs.Outcome.{Outcome, status_of, IsOutcome, IsWordsOutcome, IsCommandOutcome, IsRunOutcome, IsBenchOutcome, IsBatchOutcome, IsTapesOutcomeOf, AreFirstTapes, RunsAll, RefusesNext, generated, model_cap, bench_of, benched, with_summed_tape, summed, batched, ran, with_tape, with_tape_file, with_tape_name, with_model, tape_room, tape_cap, tape_refused}
+use Rattle.mj_words.specs.Words.{bad_place, command_of, model_of, step_count, tape_of, seed_of, link_count}
+use Rattle.mj_top.specs.Outcome.{wants_of, Outcome, status_of, IsOutcome, IsWordsOutcome, IsCommandOutcome, IsRunOutcome, IsBenchOutcome, IsBatchOutcome, IsTapesOutcomeOf, AreFirstTapes, RunsAll, RefusesNext, generated, model_cap, bench_of, benched, with_summed_tape, summed, batched, ran, with_tape, with_tape_file, with_tape_name, with_model, tape_room, tape_cap, tape_refused}
 use Rattle.mj_top.specs.Ends.{Answers, EndsWhole, Completes}
 use Rattle.mj_top.proofs.Endings.{outcome-is}
 use Rattle.mj_top.proofs.Once.{outcomes-one}
-use Rattle.mj_top.specs.Headline.{IsSound, IsEnd, IsModelUnder, IsTapeUnder, IsTraced, Achieves, IsHeadline, IsAccepted, EndsWell}
+use Rattle.mj_top.specs.Headline.{IsSound, IsEnd, IsModelUnder, IsTapeUnder, IsTraced, IsRunTraced, Achieves, IsHeadline, IsAccepted, EndsWell}
 
 -- ---- options and results
 some-same : {A : Type 0} (x y : A) → Some x ≡ Some y → x ≡ y
@@ -46,29 +52,39 @@ map-some f (Some x) y e = (x, refl, some-same (f x) y e)
 
 -- ---- steps that are done
 -- none of them is refused
-going : (m : Model) (controls : ℕ → List Control) (n k : ℕ) → k < done_of m controls n → refusal_at m controls k ≡ None
-going m controls n k h =
-    elim (none-or-some (first_to n (refusal_at m controls))) [
+going : (refusal : ℕ → Option OutOfRange) (n k : ℕ) → k < done_by refusal n → refusal k ≡ None
+going refusal n k h =
+    elim (none-or-some (first_to n refusal)) [
       | inl whole ↦
-          let all = done-whole m controls n whole in
-          (first_none n (refusal_at m controls)).0 whole k (omega (arith, all))
+          let all = done-whole refusal n whole in
+          (first_none n refusal).0 whole k (omega (arith, all))
       | inr early ↦
-          let first = first_some n (refusal_at m controls) early.0 early.1 in
-          let done = done-early m controls first.0 n early.0 first.1 ((first_none first.0 (refusal_at m controls)).1 first.3) first.2 in
+          let first = first_some n refusal early.0 early.1 in
+          let done = done-early refusal first.0 n early.0 first.1 ((first_none first.0 refusal).1 first.3) first.2 in
           first.3 k (omega (arith, done))
     ]
 
-module _ (certified : (m : Model) (s : State) (u : List Control) → IsCertified m s u) (covered : (m : Model) (s : State) (u : List Control) → IsCovered m s u) where
-  are-sound : (m : Model) (controls : ℕ → List Control) (n k : ℕ) → k < done_of m controls n → IsSound m controls k
-  are-sound m controls n k h = record {
-    going = going m controls n k h;
+module _ (certified : (m : Model) (s : State) (u : List Control) → IsCertified m s u) (covered : (m : Model) (s : State) (u : List Control) → IsCovered m s u)
+    (enclosed : (m : Model) (s : State) (u : List Control) → IsInBall m s u) (best : (m : Model) (s : State) (u : List Control) → AreBest m s u) where
+  is-sound : (m : Model) (controls : ℕ → List Control) (k : ℕ) → refusal_at m controls k ≡ None → IsSound m controls k
+  is-sound m controls k going = record {
+    going = going;
     certified = certified m (state_at m controls k) (controls k);
     covered = covered m (state_at m controls k) (controls k);
+    enclosed = enclosed m (state_at m controls k) (controls k);
+    best = best m (state_at m controls k) (controls k);
   }
+
+  are-sound : (m : Model) (controls : ℕ → List Control) (n k : ℕ) → k < done_of m controls n → IsSound m controls k
+  are-sound m controls n k h = is-sound m controls k (going (refusal_at m controls) n k h)
+
+  are-sound-told : (wants : Wants) (m : Model) (controls : ℕ → List Control) (n k : ℕ) → k < courses.done_of (course wants m controls) n → IsSound m controls k
+  are-sound-told wants m controls n k h =
+      is-sound m controls k (told-none wants m (state_at m controls k) (controls k) (going (course wants m controls).refusal n k h))
 
   -- ---- what ended is no refusal
   module _ (words : List (List ℕ)) (held : List ℕ → Option (List ℕ)) (answer : Status) (old new : Option (List ℕ)) (o : Outcome) (ends : EndsWhole o old answer new) (is_end : IsEnd o.status) where
-    traced : (m : Model) (tape : Option TapeValues) → IsModelUnder held (model_of words) m → IsTapeUnder held (tape_of words) m (step_count words) tape → ran (wants_dual words) (step_count words) m tape ≡ o → Achieves command.Run words held answer old new
+    traced : (m : Model) (tape : Option TapeValues) → IsModelUnder held (model_of words) m → IsTapeUnder held (tape_of words) m (step_count words) tape → ran (wants_of words) (step_count words) m tape ≡ o → IsRunTraced words held answer old new
     traced m tape read driven e =
         let P = λ (x : Outcome). Grew old x.text new in (
           m,
@@ -77,27 +93,27 @@ module _ (certified : (m : Model) (s : State) (u : List Control) → IsCertified
           record {
             gained = subst P (sym e) ends.grew;
             end = ends.same ∙ sym (ap (λ x. x.status) e);
-            sound = are-sound m (controls_at (length m.motors) tape) (step_count words);
+            sound = are-sound-told (wants_of words) m (controls_at (length m.motors) tape) (step_count words);
           },
         )
 
-    tape-accepted : (wants : Bool) (n : ℕ) (m : Model) (verdict : Result TapeValues TapeFault) → with_tape wants n m verdict ≡ o → (values : TapeValues) × (verdict ≡ Ok values) × (ran wants n m (Some values) ≡ o)
+    tape-accepted : (wants : Wants) (n : ℕ) (m : Model) (verdict : Result TapeValues TapeFault) → with_tape wants n m verdict ≡ o → (values : TapeValues) × (verdict ≡ Ok values) × (ran wants n m (Some values) ≡ o)
     tape-accepted wants n m (Ok values) e = (values, refl, e)
     tape-accepted wants n m (Err fault) e = absurd (let P = λ (x : Outcome). IsEnd x.status in subst P (sym e) is_end)
 
-    named : (wants : Bool) (n : ℕ) (m : Model) (tape : Option (List ℕ)) → with_tape_name held wants n m tape ≡ Some o → (values : Option TapeValues) × IsTapeUnder held tape m n values × (ran wants n m values ≡ o)
+    named : (wants : Wants) (n : ℕ) (m : Model) (tape : Option (List ℕ)) → with_tape_name held wants n m tape ≡ Some o → (values : Option TapeValues) × IsTapeUnder held tape m n values × (ran wants n m values ≡ o)
     named wants n m None e = (None, refl, some-same (ran wants n m None) o e)
     named wants n m (Some name) e =
         let file = map-some (with_tape_file wants n m) (held name) o e in
         let taken = tape-accepted wants n m (tape_verdict (length m.motors) n tape_room (take tape_cap file.0)) file.2 in
         (Some taken.0, (file.0, taken.0, file.1, taken.1, refl), taken.2)
 
-    of_run : IsRunOutcome held words o → Achieves command.Run words held answer old new
+    of_run : IsRunOutcome held words o → IsRunTraced words held answer old new
     of_run meant = split meant.2.0 meant.2.1 meant.2.2
       where
-        split : (judged : Result Model ModelFault) → told judged ≡ judged_bytes (take model_cap meant.0) → with_model held (wants_dual words) (step_count words) (tape_of words) judged ≡ Some o → Achieves command.Run words held answer old new
+        split : (judged : Result Model ModelFault) → told judged ≡ judged_bytes (take model_cap meant.0) → with_model held (wants_of words) (step_count words) (tape_of words) judged ≡ Some o → IsRunTraced words held answer old new
         split (Ok m) judged e =
-            let tape = named (wants_dual words) (step_count words) m (tape_of words) e in
+            let tape = named (wants_of words) (step_count words) m (tape_of words) e in
             traced m tape.0 (meant.0, meant.1, sym judged) tape.1 tape.2
         split (Err fault) judged e = absurd (let P = λ (x : Outcome). IsEnd x.status in subst P (sym (some-same _ o e)) is_end)
 
@@ -154,6 +170,7 @@ module _ (certified : (m : Model) (s : State) (u : List Control) → IsCertified
     of_command command.Gen meant = of_gen meant
     of_command command.Bench meant = of_bench meant
     of_command command.Batch meant = of_batch meant
+    of_command command.Inverse meant = of_run meant
 
   -- what ended was written whole
   ended : (Meant : Outcome → Type 0) (answer : Status) (old new : Option (List ℕ)) → IsEnd answer → Answers Meant answer old new → (o : Outcome) × Meant o × EndsWhole o old answer new
@@ -161,6 +178,7 @@ module _ (certified : (m : Model) (s : State) (u : List Control) → IsCertified
   ended Meant (status.BadWords at) old new end answers = absurd end
   ended Meant (status.OutOfRange step kind index) old new end answers = answers
   ended Meant (status.BadModel fault) old new end answers = absurd end
+  ended Meant (status.Rejected line reason) old new end answers = absurd end
   ended Meant (status.BadTape tape fault) old new end answers = absurd end
   ended Meant status.ReadFault old new end answers = absurd end
   ended Meant status.WriteFault old new end answers = absurd end
@@ -184,22 +202,25 @@ module _ (words : List (List ℕ)) (held : List ℕ → Option (List ℕ)) where
   abbrev HasEnd : Command → Type 0
   HasEnd kind = (o : Outcome) × IsCommandOutcome held kind words o × IsEnd o.status
 
-  named-ran : (m : Model) (name : Option (List ℕ)) (tape : Option TapeValues) → IsTapeUnder held name m (step_count words) tape → with_tape_name held (wants_dual words) (step_count words) m name ≡ Some (ran (wants_dual words) (step_count words) m tape)
-  named-ran m None tape driven = ap (λ t. Some (ran (wants_dual words) (step_count words) m t)) (sym driven)
+  named-ran : (m : Model) (name : Option (List ℕ)) (tape : Option TapeValues) → IsTapeUnder held name m (step_count words) tape → with_tape_name held (wants_of words) (step_count words) m name ≡ Some (ran (wants_of words) (step_count words) m tape)
+  named-ran m None tape driven = ap (λ t. Some (ran (wants_of words) (step_count words) m t)) (sym driven)
   named-ran m (Some name) tape driven =
-      ap (option_map (with_tape_file (wants_dual words) (step_count words) m)) driven.2
-      ∙ ap (λ v. Some (with_tape (wants_dual words) (step_count words) m v)) driven.3
-      ∙ ap (λ t. Some (ran (wants_dual words) (step_count words) m t)) (sym driven.4)
+      ap (option_map (with_tape_file (wants_of words) (step_count words) m)) driven.2
+      ∙ ap (λ v. Some (with_tape (wants_of words) (step_count words) m v)) driven.3
+      ∙ ap (λ t. Some (ran (wants_of words) (step_count words) m t)) (sym driven.4)
 
-  has_end : (kind : Command) → IsAccepted kind words held → HasEnd kind
-  has_end command.Run given =
+  run_end : IsAccepted command.Run words held → (o : Outcome) × IsRunOutcome held words o × IsEnd o.status
+  run_end given =
       let m = given.0 in
       let tape = given.1 in
       let read = given.2.0 in (
-        ran (wants_dual words) (step_count words) m tape,
+        ran (wants_of words) (step_count words) m tape,
         (read.0, read.1, (Ok m, sym read.2, named-ran m (tape_of words) tape given.2.1)),
-        is_end-of (end_of m (controls_at (length m.motors) tape) (step_count words)),
+        is_end-of (courses.end_of (course (wants_of words) m (controls_at (length m.motors) tape)) (step_count words)),
       )
+
+  has_end : (kind : Command) → IsAccepted kind words held → HasEnd kind
+  has_end command.Run given = run_end given
   has_end command.Gen given = (generated (seed_of words) (link_count words), refl, tt)
   has_end command.Bench given =
       let m = given.0 in
@@ -216,6 +237,7 @@ module _ (words : List (List ℕ)) (held : List ℕ → Option (List ℕ)) where
         (read.0, read.1, (Ok m, sym read.2, (tapes, given.2.2, inl (given.2.1, refl)))),
         is_end-of (batch_end m (step_count words) tapes),
       )
+  has_end command.Inverse given = run_end given
 
   pub ends-well : (tells : Bool) (answer : Status) (reads reads' : List ℕ → ℕ) (writes writes' : ℕ) → Completes words tells held answer reads reads' writes writes' → EndsWell words tells held answer reads reads' writes writes'
   ends-well tells answer reads reads' writes writes' complete good given quiet silent =

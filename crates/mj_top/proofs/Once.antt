@@ -20,9 +20,9 @@ use Rattle.mj_run.specs.Batch.{no_tape, tape_at}
 use Rattle.mj_valid.specs.Judging.{accepted_of, told, judged_bytes}
 use Rattle.mj_words.specs.declared.table.Command.{Command}
 use Rattle.mj_words.specs.declared.table.Command.TheVariants as command
-use Rattle.mj_words.specs.Words.{bad_place, command_of, model_of, step_count, wants_dual, tape_of, tape_count, nth_tape, seed_of, link_count, value, value_count, is_tape, is_nth}
+use Rattle.mj_words.specs.Words.{bad_place, command_of, model_of, step_count, tape_of, tape_count, nth_tape, seed_of, link_count, value, value_count, is_tape, is_nth}
 use Rattle.mj_top.specs.Once.{AskAlike}
-use Rattle.mj_top.specs.Outcome.{Outcome, IsOutcome, IsWordsOutcome, IsCommandOutcome, IsRunOutcome, IsFileOutcome, IsBenchOutcome, IsBatchOutcome, IsTapesOutcome, IsTapesOutcomeOf, IsTapeJudged, AreFirstTapes, RunsAll, RefusesNext, with_model, bench_of, batched, kept_before, tape_room, tape_cap, model_cap, tape_refused}
+use Rattle.mj_top.specs.Outcome.{wants_of, Outcome, IsOutcome, IsWordsOutcome, IsCommandOutcome, IsRunOutcome, IsFileOutcome, IsBenchOutcome, IsBatchOutcome, IsTapesOutcome, IsTapesOutcomeOf, IsTapeJudged, AreFirstTapes, RunsAll, RefusesNext, with_model, bench_of, batched, kept_before, tape_room, tape_cap, model_cap, tape_refused}
 
 -- ---- a model is what it holds
 models-told : (a b : Model) → accepted_of a ≡ accepted_of b → a ≡ b
@@ -163,8 +163,8 @@ module _ (held : List ℕ → Option (List ℕ)) (words : List (List ℕ)) where
   run-one o o' p q =
       let file : p.0 ≡ q.0 = some-one (held (model_of words)) p.0 q.0 p.1 q.1 in
       let judged = bytes-one (take model_cap p.0) (take model_cap q.0) p.2.0 q.2.0 (ap (take model_cap) file) p.2.1 q.2.1 in
-      some-one (with_model held (wants_dual words) (step_count words) (tape_of words) q.2.0) o o'
-      (ap (with_model held (wants_dual words) (step_count words) (tape_of words)) (sym judged) ∙ p.2.2) q.2.2
+      some-one (with_model held (wants_of words) (step_count words) (tape_of words) q.2.0) o o'
+      (ap (with_model held (wants_of words) (step_count words) (tape_of words)) (sym judged) ∙ p.2.2) q.2.2
 
   bench-one : (o o' : Outcome) → IsBenchOutcome (seed_of words) (link_count words) (step_count words) o → IsBenchOutcome (seed_of words) (link_count words) (step_count words) o' → o ≡ o'
   bench-one o o' p q =
@@ -176,6 +176,7 @@ module _ (held : List ℕ → Option (List ℕ)) (words : List (List ℕ)) where
   command-one command.Gen o o' p q = p ∙ sym q
   command-one command.Bench o o' p q = bench-one o o' p q
   command-one command.Batch o o' p q = batch-one o o' p q
+  command-one command.Inverse o o' p q = run-one o o' p q
 
   words-one : (bad : Option ℕ) (o o' : Outcome) → IsWordsOutcome held words bad o → IsWordsOutcome held words bad o' → o ≡ o'
   words-one (Some at) o o' p q = p ∙ sym q

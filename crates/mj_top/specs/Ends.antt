@@ -96,11 +96,16 @@ CommandReadRose command.Run words tells held reads reads' = RunReadRose words te
 CommandReadRose command.Gen words tells held reads reads' = ⊥
 CommandReadRose command.Bench words tells held reads reads' = ⊥
 CommandReadRose command.Batch words tells held reads reads' = BatchReadRose words tells held reads reads'
+CommandReadRose command.Inverse words tells held reads reads' = RunReadRose words tells held reads reads'
 
 abbrev pub ReadRose :
     List (List ℕ) → Bool → (List ℕ → Option (List ℕ)) → (List ℕ → ℕ) → (List ℕ → ℕ) → Type 0
 ReadRose words tells held reads reads' =
     CommandReadRose (command_of words) words tells held reads reads'
+
+-- a command that runs one model
+abbrev pub IsRun : Command → Type 0
+IsRun kind = (kind ≡ command.Run) ⊎ (kind ≡ command.Inverse)
 
 -- an answer that is an outcome's
 abbrev pub IsMeant : (Outcome → Type 0) → Status → Type 0

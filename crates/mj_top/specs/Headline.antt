@@ -6,28 +6,35 @@ use Rattle.mj_types.specs.Control.{Control}
 use Rattle.mj_types.specs.declared.model.Model.{Model}
 use Rattle.mj_types.specs.declared.status.Status.{Status}
 use Rattle.mj_types.specs.declared.status.Status.TheVariants as status
+use Rattle.mj_types.specs.declared.wants.Wants.{Wants}
 use Rattle.mj_tape.specs.Judging.{TapeValues, tape_verdict}
 use Rattle.mj_gen.specs.Chain.{chain_text}
 use Rattle.mj_gen.specs.Tape.{tape_text}
 use Rattle.mj_valid.specs.Judging.{accepted_of, judged_bytes}
 use Rattle.mj_step.specs.Certified.{IsCertified}
 use Rattle.mj_step.specs.Covered.{IsCovered}
+use Rattle.mj_step.specs.Enclosed.{IsInBall}
 use Rattle.mj_run.specs.Batch.{tape_at, batch_text, batch_end, driven_by}
 use Rattle.mj_run.specs.Controls.{controls_at}
-use Rattle.mj_run.specs.Run.{state_at, refusal_at, done_of, end_of, trace_text}
+use Rattle.mj_run.specs.Course as courses
+use Rattle.mj_run.specs.Run.{state_at, refusal_at, done_of, end_of, course, trace_text}
 use Rattle.mj_run.specs.Summing.{run_summary_text}
+use Rattle.mj_run.specs.Told.{AreBest}
 use Rattle.mj_words.specs.declared.table.Command.{Command}
 use Rattle.mj_words.specs.declared.table.Command.TheVariants as command
-use Rattle.mj_words.specs.Words.{bad_place, command_of, model_of, step_count, wants_dual, tape_of, tape_count, seed_of, link_count}
-use Rattle.mj_top.specs.Outcome.{status_of, model_cap, tape_cap, tape_room, AreFirstTapes, IsOutcome}
+use Rattle.mj_words.specs.Words.{bad_place, command_of, model_of, step_count, tape_of, tape_count, seed_of, link_count}
+use Rattle.mj_top.specs.Outcome.{status_of, wants_of, model_cap, tape_cap, tape_room, AreFirstTapes, IsOutcome}
 use Rattle.mj_top.specs.Ends.{Answers, LeavesSink, HasCause, Completes, ReadRose}
 
 -- step k + 1 isn't refused; the forces that are printed of it are feasible, and the bound and the box
--- hold; and the radii and the residual cover what rounding did
+-- hold; the radii and the residual cover what rounding did; a ball, where there is one, holds each rational
+-- solution of its equation of motion; and each force by itself is within one unit of its row's optimum
 pub record IsSound (m : Model) (controls : ℕ → List Control) (k : ℕ) : Type 0 where
   pub going : refusal_at m controls k ≡ None
   pub certified : IsCertified m (state_at m controls k) (controls k)
   pub covered : IsCovered m (state_at m controls k) (controls k)
+  pub enclosed : IsInBall m (state_at m controls k) (controls k)
+  pub best : AreBest m (state_at m controls k) (controls k)
 
 -- the bytes are judged to be this model
 abbrev pub AreModelOf : List ℕ → Model → Type 0
@@ -71,12 +78,12 @@ AreGenerated words m tape =
 -- n steps of the model under these controls: the trace was written, the answer is its end, and each step
 -- that has a block is sound
 pub record IsTraced
-    (m : Model) (controls : ℕ → List Control) (wants : Bool) (n : ℕ) (answer : Status)
+    (wants : Wants) (m : Model) (controls : ℕ → List Control) (n : ℕ) (answer : Status)
     (old new : Option (List ℕ)) : Type 0
   where
-    pub gained : Grew old (trace_text m controls wants n) new
-    pub end : answer ≡ status_of (end_of m controls n)
-    pub sound : (k : ℕ) → k < done_of m controls n → IsSound m controls k
+    pub gained : Grew old (trace_text wants m controls n) new
+    pub end : answer ≡ status_of (courses.end_of (course wants m controls) n)
+    pub sound : (k : ℕ) → k < courses.done_of (course wants m controls) n → IsSound m controls k
 
 -- the same of a run whose summary was written
 pub record IsSummed
@@ -95,12 +102,17 @@ pub record AreSummed
     pub sound :
         (t k : ℕ) → t < length tapes → k < done_of m (driven_by m (tape_at tapes t)) n → IsSound m (driven_by m (tape_at tapes t)) k
 
+-- a run of the model that the words' file is judged to be, with its tape or none
+abbrev pub IsRunTraced :
+    List (List ℕ) → (List ℕ → Option (List ℕ)) → Status → Option (List ℕ) → Option (List ℕ) → Type 0
+IsRunTraced words held answer old new =
+    (m : Model) × (tape : Option TapeValues) × AreGiven words held m tape
+    × IsTraced (wants_of words) m (controls_at (length m.motors) tape) (step_count words) answer old new
+
 -- what a command that ended has done
 abbrev pub Achieves :
     Command → List (List ℕ) → (List ℕ → Option (List ℕ)) → Status → Option (List ℕ) → Option (List ℕ) → Type 0
-Achieves command.Run words held answer old new =
-    (m : Model) × (tape : Option TapeValues) × AreGiven words held m tape
-    × IsTraced m (controls_at (length m.motors) tape) (wants_dual words) (step_count words) answer old new
+Achieves command.Run words held answer old new = IsRunTraced words held answer old new
 Achieves command.Gen words held answer old new = Grew old (chain_text (seed_of words) (link_count words)) new
 Achieves command.Bench words held answer old new =
     (m : Model) × (tape : TapeValues) × AreGenerated words m tape
@@ -108,6 +120,7 @@ Achieves command.Bench words held answer old new =
 Achieves command.Batch words held answer old new =
     (m : Model) × (tapes : List TapeValues) × AreAllGiven words held m tapes
     × AreSummed m tapes (step_count words) answer old new
+Achieves command.Inverse words held answer old new = IsRunTraced words held answer old new
 
 -- the headline: accepted words, where the answer is an end, have done what their command says
 abbrev pub IsHeadline :
@@ -122,6 +135,7 @@ IsAccepted command.Run words held = (m : Model) × (tape : Option TapeValues) ×
 IsAccepted command.Gen words held = Unit {0}
 IsAccepted command.Bench words held = (m : Model) × (tape : TapeValues) × AreGenerated words m tape
 IsAccepted command.Batch words held = (m : Model) × (tapes : List TapeValues) × AreAllGiven words held m tapes
+IsAccepted command.Inverse words held = (m : Model) × (tape : Option TapeValues) × AreGiven words held m tape
 
 -- accepted input ends where no count rose, unless memory was wanted
 abbrev pub EndsWell :
@@ -137,6 +151,7 @@ reads_files command.Run = true
 reads_files command.Gen = false
 reads_files command.Bench = false
 reads_files command.Batch = true
+reads_files command.Inverse = true
 
 -- the words do: refused ones read none
 abbrev pub read_files : List (List ℕ) → Bool
@@ -174,8 +189,13 @@ pub record Promise {F K : Type 0}
     -- where no file is read, nor was the cabinet
     pub unread : read_files words ≡ false → cabinet' ≡ cabinet
     -- whatever the cabinet tells: in every step of every run the forces are feasible, and the bound and the
-    -- box hold; and the radii and the residual cover what rounding did
+    -- box hold; the radii and the residual cover what rounding did; a ball holds each rational solution; and
+    -- each force by itself is its row's best
     pub certified :
         (m : Model) (controls : ℕ → List Control) (k : ℕ) → IsCertified m (state_at m controls k) (controls k)
     pub covered :
         (m : Model) (controls : ℕ → List Control) (k : ℕ) → IsCovered m (state_at m controls k) (controls k)
+    pub enclosed :
+        (m : Model) (controls : ℕ → List Control) (k : ℕ) → IsInBall m (state_at m controls k) (controls k)
+    pub best :
+        (m : Model) (controls : ℕ → List Control) (k : ℕ) → AreBest m (state_at m controls k) (controls k)

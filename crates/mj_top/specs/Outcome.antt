@@ -8,6 +8,7 @@ use Rattle.mj_types.specs.declared.status.ModelFault.{ModelFault}
 use Rattle.mj_types.specs.declared.status.Status.{Status}
 use Rattle.mj_types.specs.declared.status.Status.TheVariants as status
 use Rattle.mj_types.specs.declared.tape.TapeFault.{TapeFault}
+use Rattle.mj_types.specs.declared.wants.Wants.{Wants}
 use Rattle.mj_gen.specs.Chain.{chain_text}
 use Rattle.mj_gen.specs.Tape.{tape_text}
 use Rattle.mj_tape.specs.Judging.{TapeValues, tape_verdict}
@@ -16,9 +17,10 @@ use Rattle.mj_valid.specs.Judging.{told, judged_bytes}
 use Rattle.mj_run.specs.Controls.{controls_at}
 use Rattle.mj_words.specs.declared.table.Command.{Command}
 use Rattle.mj_words.specs.declared.table.Command.TheVariants as command
-use Rattle.mj_words.specs.Words.{bad_place, command_of, model_of, step_count, wants_dual, tape_of, tape_count, nth_tape, seed_of, link_count}
+use Rattle.mj_words.specs.Words.{bad_place, command_of, model_of, step_count, wants_dual, wants_ball, wants_inverse, tape_of, tape_count, nth_tape, seed_of, link_count}
 use Rattle.mj_run.specs.Batch.{tape_at, batch_text, batch_end}
-use Rattle.mj_run.specs.Run.{end_of, trace_text}
+use Rattle.mj_run.specs.Course as courses
+use Rattle.mj_run.specs.Run.{end_of, course, trace_text}
 use Rattle.mj_run.specs.Summing.{run_summary_text}
 
 -- an answer and a text
@@ -54,15 +56,19 @@ abbrev pub status_of : End → Status
 status_of finish.Done = status.Done
 status_of (finish.OutOfRange step kind index) = status.OutOfRange step kind index
 
--- the model runs for n steps with this tape, or without one, and its duals are told where they are asked for
-abbrev pub ran : Bool → ℕ → Model → Option TapeValues → Outcome
+-- what the words ask for beside the blocks of a run
+abbrev pub wants_of : List (List ℕ) → Wants
+wants_of words = record { dual = wants_dual words; ball = wants_ball words; inverse = wants_inverse words }
+
+-- the model runs for n steps with this tape, or without one, and what is asked for is told of each
+abbrev pub ran : Wants → ℕ → Model → Option TapeValues → Outcome
 ran wants n m tape = record {
-  status = status_of (end_of m (controls_at (length m.motors) tape) n);
-  text = trace_text m (controls_at (length m.motors) tape) wants n;
+  status = status_of (courses.end_of (course wants m (controls_at (length m.motors) tape)) n);
+  text = trace_text wants m (controls_at (length m.motors) tape) n;
 }
 
 -- the tape is refused, or the model runs with it
-abbrev pub with_tape : Bool → ℕ → Model → Result TapeValues TapeFault → Outcome
+abbrev pub with_tape : Wants → ℕ → Model → Result TapeValues TapeFault → Outcome
 with_tape wants n m (Ok tape) = ran wants n m (Some tape)
 with_tape wants n m (Err fault) = tape_refused 1 fault
 
@@ -78,7 +84,7 @@ abbrev pub tape_cap : ℕ
 tape_cap = 67108865
 
 -- what is read of a tape's file
-abbrev pub with_tape_file : Bool → ℕ → Model → List ℕ → Outcome
+abbrev pub with_tape_file : Wants → ℕ → Model → List ℕ → Outcome
 with_tape_file wants n m held = with_tape wants n m (tape_verdict (length m.motors) n tape_room (take tape_cap held))
 
 -- the steps of a run with this tape are summed
@@ -164,25 +170,25 @@ module _ (held : List ℕ → Option (List ℕ)) (words : List (List ℕ)) where
 
 module _ (held : List ℕ → Option (List ℕ)) where
   -- no tape is named, or its file is read; none where nothing is held under that name
-  abbrev pub with_tape_name : Bool → ℕ → Model → Option (List ℕ) → Option Outcome
+  abbrev pub with_tape_name : Wants → ℕ → Model → Option (List ℕ) → Option Outcome
   with_tape_name wants n m None = Some (ran wants n m None)
   with_tape_name wants n m (Some name) = option_map (with_tape_file wants n m) (held name)
 
   -- the model is refused, or accepted, and then it runs
-  abbrev pub with_model : Bool → ℕ → Option (List ℕ) → Result Model ModelFault → Option Outcome
+  abbrev pub with_model : Wants → ℕ → Option (List ℕ) → Result Model ModelFault → Option Outcome
   with_model wants n tape (Ok m) = with_tape_name wants n m tape
   with_model wants n tape (Err fault) = Some (model_refused fault)
 
   -- the outcome of a model's file: of what its bytes are judged to be
-  abbrev pub IsFileOutcome : Bool → ℕ → Option (List ℕ) → List ℕ → Outcome → Type 0
+  abbrev pub IsFileOutcome : Wants → ℕ → Option (List ℕ) → List ℕ → Outcome → Type 0
   IsFileOutcome wants n tape bytes outcome =
       (judged : Result Model ModelFault) × (told judged ≡ judged_bytes bytes) × (with_model wants n tape judged ≡ Some outcome)
 
-  -- `run`: of the model's file
+  -- `run` and `inverse`: of the model's file
   abbrev pub IsRunOutcome : List (List ℕ) → Outcome → Type 0
   IsRunOutcome words outcome =
       (file : List ℕ) × (held (model_of words) ≡ Some file)
-      × IsFileOutcome (wants_dual words) (step_count words) (tape_of words) (take model_cap file) outcome
+      × IsFileOutcome (wants_of words) (step_count words) (tape_of words) (take model_cap file) outcome
 
   -- of each command
   abbrev pub IsCommandOutcome : Command → List (List ℕ) → Outcome → Type 0
@@ -191,6 +197,7 @@ module _ (held : List ℕ → Option (List ℕ)) where
   IsCommandOutcome command.Bench words outcome =
       IsBenchOutcome (seed_of words) (link_count words) (step_count words) outcome
   IsCommandOutcome command.Batch words outcome = IsBatchOutcome held words outcome
+  IsCommandOutcome command.Inverse words outcome = IsRunOutcome words outcome
 
   -- the words are refused, or do what their command does
   abbrev pub IsWordsOutcome : List (List ℕ) → Option ℕ → Outcome → Type 0

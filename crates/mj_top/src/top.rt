@@ -8,22 +8,22 @@ ghost use Rattle.mj_words.specs.Words as command;
 ghost use Rattle.mj_run.specs.Run.{start};
 ghost use Rattle.mj_top.specs.Headline.{reads_files, Promise};
 ghost use Rattle.mj_top.specs.Outcome as spec;
-ghost use Rattle.mj_top.specs.Ends.{Answers, LeavesSink, HasCause, HasLaterCause, TapeRose, AreModel, IsMeant, Ends, EndsOrMemory, unless_failed};
+ghost use Rattle.mj_top.specs.Ends.{Answers, LeavesSink, HasCause, HasLaterCause, TapeRose, AreModel, IsMeant, Ends, EndsOrMemory, IsRun, unless_failed};
 
 use crate::batch::batch;
 use crate::bench::bench;
 use mj_fan::{Gate, NoGate};
 use mj_gen::chain_model;
 use mj_io::{Cabinet, CabinetFault, Failed, NoMemory, Page, Sink, finish, send};
-use mj_run::{Controls, Runner, send_run};
-use mj_step::{steps_are_certified, steps_are_covered};
+use mj_run::{Controls, Runner, send_run, told_forces_are_best};
+use mj_step::{solutions_are_in_balls, steps_are_certified, steps_are_covered};
 use mj_tape::tape;
 use mj_trace::{send_model_refusal, send_tape_refusal, send_words_refusal};
-use mj_types::{End, Model, ModelCode, ModelFault, Status, TapeFault};
+use mj_types::{End, Model, ModelCode, ModelFault, Status, TapeFault, Wants};
 use mj_valid::judge;
 use mj_words::{
     Command, bad_place, bench_link_count, bench_step_count, command_of, link_count, model_of,
-    seed_of, step_count, tape_of, wants_dual,
+    seed_of, step_count, tape_of, wants_ball, wants_dual, wants_inverse,
 };
 use std::alloc::Global;
 use std::thread::Threads;
@@ -100,11 +100,12 @@ fn run_on<S: Sink>(
     runner: &mut Runner,
     controls: &Controls,
     steps: u32,
-    wants: bool,
+    wants: Wants,
 ) -> Status
     requires made { MadeFor model.now runner.old.work }
     requires fits { Fits model.now runner.old.state }
     requires start { runner.old.state ≡ start model.now }
+    requires inverse { length runner.old.inverse.x ≡ model.now.njmax }
     requires serves { Serves controls.now (length model.now.motors) steps }
     ensures { Ends S.holds S.faults (spec.ran wants steps model.now (taped controls.now))
         sink.old result sink.new }
@@ -126,7 +127,7 @@ fn run_model<S: Sink>(
     model: &Model,
     controls: &Controls,
     steps: u32,
-    wants: bool,
+    wants: Wants,
 ) -> Status
     requires { Serves controls.now (length model.now.motors) steps }
     ensures { EndsOrMemory S.holds S.faults (spec.ran wants steps model.now (taped controls.now))
@@ -149,7 +150,7 @@ fn run_at_rest<S: Sink>(
     sink: &mut S,
     model: &Model,
     steps: u32,
-    wants: bool,
+    wants: Wants,
 ) -> Status
     ensures { EndsOrMemory S.holds S.faults (spec.ran wants steps model.now None)
         sink.old result sink.new }
@@ -167,7 +168,7 @@ fn run_tape_file<S: Sink>(
     model: &Model,
     bytes: &[u8],
     steps: u32,
-    wants: bool,
+    wants: Wants,
 ) -> Status
     ensures { EndsOrMemory S.holds S.faults
         (spec.with_tape wants steps model.now
@@ -183,6 +184,17 @@ fn run_tape_file<S: Sink>(
     }
 }
 
+// What the words ask for beside the blocks of a run.
+fn wants_of(words: &[String]) -> Wants
+    ensures { result ≡ spec.wants_of (map string_bytes words.now) }
+{
+    Wants {
+        dual: wants_dual(words),
+        ball: wants_ball(words),
+        inverse: wants_inverse(words),
+    }
+}
+
 // A model that runs, with the tape where one is named.
 fn run_with_tape<C: Cabinet, S: Sink>(
     alloc: Global,
@@ -193,7 +205,7 @@ fn run_with_tape<C: Cabinet, S: Sink>(
 ) -> Status
     ensures outcome { IsTrue (C.tells cabinet.old) →
         Answers (λ o. spec.with_tape_name (C.holds cabinet.old)
-        (command.wants_dual (map string_bytes words.now))
+        (spec.wants_of (map string_bytes words.now))
         (command.step_count (map string_bytes words.now)) model.now
         (command.tape_of (map string_bytes words.now)) ≡ Some o) result (S.holds sink.old)
         (S.holds sink.new) }
@@ -203,7 +215,7 @@ fn run_with_tape<C: Cabinet, S: Sink>(
         (S.faults sink.new) }
 {
     let steps = step_count(words);
-    let wants = wants_dual(words);
+    let wants = wants_of(words);
     match tape_of(words) {
         None => run_at_rest(alloc, sink, model, steps, wants),
         Some(name) => match cabinet.read(alloc, name, TAPE_CAP) {
@@ -224,7 +236,7 @@ fn run_model_file<C: Cabinet, S: Sink>(
 ) -> Status
     ensures outcome { IsTrue (C.tells cabinet.old) →
         Answers (spec.IsFileOutcome (C.holds cabinet.old)
-        (command.wants_dual (map string_bytes words.now))
+        (spec.wants_of (map string_bytes words.now))
         (command.step_count (map string_bytes words.now))
         (command.tape_of (map string_bytes words.now)) bytes.now) result
         (S.holds sink.old) (S.holds sink.new) }
@@ -267,7 +279,7 @@ fn generate<S: Sink>(alloc: Global, sink: &mut S, seed: u32, links: u32) -> Stat
     }
 }
 
-// A run: the model's file is read.
+// A run, or the inverse dynamics of one: the model's file is read.
 fn run_files<C: Cabinet, S: Sink>(
     alloc: Global,
     words: &[String],
@@ -275,7 +287,7 @@ fn run_files<C: Cabinet, S: Sink>(
     sink: &mut S,
 ) -> Status
     requires good { command.bad_place (map string_bytes words.now) ≡ None }
-    requires run { command.command_of (map string_bytes words.now) ≡ Command.Run }
+    requires run { IsRun (command.command_of (map string_bytes words.now)) }
     ensures outcome { IsTrue (C.tells cabinet.old) →
         Answers (spec.IsOutcome (map string_bytes words.now) (C.holds cabinet.old)) result
         (S.holds sink.old) (S.holds sink.new) }
@@ -314,6 +326,7 @@ fn run_accepted<R: Threads + Sync, C: Cabinet, S: Sink, G: Gate>(
 {
     match command_of(words) {
         Command::Run => run_files(alloc, words, cabinet, sink),
+        Command::Inverse => run_files(alloc, words, cabinet, sink),
         Command::Gen => generate(alloc, sink, seed_of(words), link_count(words)),
         Command::Bench => bench(
             alloc,
@@ -327,7 +340,8 @@ fn run_accepted<R: Threads + Sync, C: Cabinet, S: Sink, G: Gate>(
 }
 
 /// Does what the words' command does, and writes its text, or the one line of a refusal, to the sink:
-/// `run` reads a model from the cabinet, runs it and writes the trace; `gen` writes a generated model;
+/// `run` reads a model from the cabinet, runs it and writes the trace, and `inverse` does so with the forces of
+/// each step's rows one by one; `gen` writes a generated model;
 /// `bench` runs one with a generated tape and writes the summary; `batch` runs a model with each of
 /// several tapes by as many threads as the words let work, and writes their summaries. In a batch the
 /// gate is called ahead of each tape's run with the tape's number, in the thread that runs it.
@@ -335,14 +349,15 @@ fn run_accepted<R: Threads + Sync, C: Cabinet, S: Sink, G: Gate>(
 /// All that is promised is one record, `Promise` (specs/Headline). `headline`: where the cabinet tells and
 /// the words are accepted, an answer of `Done` or `OutOfRange` means that there are one model, which its
 /// file's bytes are judged to be, and its tapes, that the sink gained the text of their run, and that in each
-/// step that has a block the forces are feasible, bound and box hold, and radii and residual cover what
-/// rounding did. `ends`: where all input is accepted the answer is such an end, unless a count of faults
+/// step that has a block the forces are feasible, bound and box hold, radii and residual cover what
+/// rounding did, a ball holds each rational solution of the equation of motion, and each force by itself is
+/// within one unit of its row's optimum. `ends`: where all input is accepted the answer is such an end, unless a count of faults
 /// rose or memory was wanted. `outcome`: the answer and what the sink gains are those of the outcome, but for
 /// `ReadFault`, `WriteFault` and `Memory`. `complete`: where no count rose, the answer is the outcome's, or
 /// `Memory`. `cause`: when each answer may come. `nothing`: after `ReadFault` and `Memory` the sink was not
 /// touched, and but for `WriteFault` its count of faults is as it was. `unread`: where no file is read, the
-/// cabinet was not touched. `certified` and `covered` hold for all models, controls and steps, whatever the
-/// cabinet tells.
+/// cabinet was not touched. `certified`, `covered`, `enclosed` and `best` hold for all models, controls and
+/// steps, whatever the cabinet tells.
 pub fn run_gated<R: Threads + Sync, C: Cabinet, S: Sink, G: Gate>(
     rt: &R,
     alloc: Global,
@@ -356,6 +371,8 @@ pub fn run_gated<R: Threads + Sync, C: Cabinet, S: Sink, G: Gate>(
 {
     steps_are_covered();
     steps_are_certified();
+    solutions_are_in_balls();
+    told_forces_are_best();
     match bad_place(words) {
         Some(at) => refuse_words(sink, at),
         None => run_accepted(rt, alloc, words, cabinet, sink, gate),

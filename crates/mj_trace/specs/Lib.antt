@@ -4,3 +4,5 @@ pub mod Refusal
 pub mod Reports
 pub mod Summaries
 pub mod Trace
+pub mod Verdicts
+pub mod Wanted

@@ -1,4 +1,4 @@
-//! The texts of a run: its trace line by line, its summary, and the one line of a refusal.
+//! The texts of a run: its trace line by line, its summary, the one line of a refusal, and that of a verdict.
 #![tactic(auto)]
 
 pub mod blocks;
@@ -8,6 +8,8 @@ pub mod refusals;
 mod rows;
 pub mod summaries;
 pub mod trace;
+pub mod verdicts;
+pub mod wanted;
 
 pub use blocks::{block, send_block};
 pub use refusals::{
@@ -15,3 +17,5 @@ pub use refusals::{
 };
 pub use summaries::{send_summary, summary};
 pub use trace::{end, header, send_end, send_header};
+pub use verdicts::{accepted, rejected, send_accepted, send_rejected};
+pub use wanted::{ball_line, inverse_lines, send_ball, send_inverse};

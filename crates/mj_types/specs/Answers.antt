@@ -1,9 +1,11 @@
--- The number of a status, and the name of a model's code.
+-- The number of a status, and the names of a model's codes and of a verdict's reasons.
 use Rattle.std.specs.Prelude.{ℕ, List, codes}
 use Rattle.mj_types.specs.declared.status.ModelCode.{ModelCode}
 use Rattle.mj_types.specs.declared.status.ModelCode.TheVariants as code
 use Rattle.mj_types.specs.declared.status.Status.{Status}
 use Rattle.mj_types.specs.declared.status.Status.TheVariants as status
+use Rattle.mj_types.specs.declared.verdict.Reason.{Reason}
+use Rattle.mj_types.specs.declared.verdict.Reason.TheVariants as why
 
 abbrev pub model_code_name : ModelCode → List ℕ
 model_code_name code.TooLarge = codes "TooLarge"
@@ -26,6 +28,15 @@ model_code_name code.BadSolimp = codes "BadSolimp"
 model_code_name code.BadSolref = codes "BadSolref"
 model_code_name code.Memory = codes "Memory"
 
+abbrev pub reason_name : Reason → List ℕ
+reason_name why.TooLarge = codes "TooLarge"
+reason_name why.Form = codes "Form"
+reason_name why.Limit = codes "Limit"
+reason_name why.Feasible = codes "Feasible"
+reason_name why.Cost = codes "Cost"
+reason_name why.Bound = codes "Bound"
+reason_name why.Box = codes "Box"
+
 -- the number that the program ends with
 abbrev pub code_of : Status → ℕ
 code_of status.Done = 0
@@ -36,3 +47,4 @@ code_of (status.BadTape tape fault) = 5
 code_of status.ReadFault = 6
 code_of status.WriteFault = 7
 code_of status.Memory = 8
+code_of (status.Rejected line reason) = 9

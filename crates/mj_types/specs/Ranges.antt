@@ -41,6 +41,9 @@ quantity_name kind.Box = codes "Box"
 quantity_name kind.Load = codes "Load"
 quantity_name kind.Velocity = codes "Velocity"
 quantity_name kind.Position = codes "Position"
+quantity_name kind.InverseRate = codes "InverseRate"
+quantity_name kind.InverseForce = codes "InverseForce"
+quantity_name kind.InverseLoad = codes "InverseLoad"
 quantity_name kind.ErrorBound = codes "ErrorBound"
 
 -- at most a limit in size

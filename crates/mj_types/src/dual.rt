@@ -1,9 +1,9 @@
 // The dual problem of the contact forces, its forces and their certificate.
-ghost use Rattle.std.specs.Prelude.{◌≡◌, ◌+◌, ◌*◌, ◌^◌, ◌<◌, ◌≤◌, ◌+ℤ◌, ◌*ℤ◌, unsigned_abs, ℕ, length, slice_set, IfOk, IsTrue};
+ghost use Rattle.std.specs.Prelude.{◌≡◌, ◌+◌, ◌*◌, ◌^◌, ◌<◌, ◌≤◌, ◌+ℤ◌, ◌*ℤ◌, unsigned_abs, ℕ, pos, length, replicate, slice_set, IfOk, IsTrue};
 ghost use Rattle.fx_whole.specs.Sums.{sum_to};
 ghost use Rattle.mj_types.specs.Duals as duals;
 ghost use Rattle.mj_types.specs.Duals.{AreRows, IsSolvableRow, MayBeRow, MayBeSolved, IsWithinRanges, bound, bound_at, entry_at, wide_at};
-ghost use Rattle.mj_types.specs.Parts.{number_at};
+ghost use Rattle.mj_types.specs.Parts.{number_at, plain};
 
 use crate::NoMemory;
 use crate::model::Model;
@@ -334,6 +334,8 @@ impl Forces {
     /// Forces of 0 for the model's rows.
     pub fn new(alloc: Global, model: &Model) -> Result<Forces, NoMemory>
         ensures room { IfOk result (λ x. spec.ForcesRoom model.now.njmax model.now.nv x) }
+        ensures forces { IfOk result (λ x. x.f ≡ replicate model.now.njmax (plain (pos 0))) }
+        ensures reached { IfOk result (λ x. x.u ≡ replicate model.now.nv (plain (pos 0))) }
     {
         Forces::with_room(alloc, model.njmax, model.nv)
     }
@@ -341,6 +343,8 @@ impl Forces {
     /// Forces of 0 for so many rows and dofs.
     pub fn with_room(alloc: Global, rows: usize, nv: usize) -> Result<Forces, NoMemory>
         ensures room { IfOk result (λ x. spec.ForcesRoom rows nv x) }
+        ensures forces { IfOk result (λ x. x.f ≡ replicate rows (plain (pos 0))) }
+        ensures reached { IfOk result (λ x. x.u ≡ replicate nv (plain (pos 0))) }
     {
         Ok(Forces {
             f: zeros(alloc, rows)?,
@@ -357,6 +361,10 @@ impl Cert {
     /// A certificate of no rows, with room for the model's.
     pub fn new(alloc: Global, model: &Model) -> Result<Cert, NoMemory>
         ensures room { IfOk result (λ c. spec.CertRoom model.now.njmax c) }
+        ensures cost { IfOk result (λ c. c.cost2 ≡ pos 0) }
+        ensures bound { IfOk result (λ c. c.bound2 ≡ pos 0) }
+        ensures low_ends { IfOk result (λ c. c.lo ≡ replicate model.now.njmax (plain (pos 0))) }
+        ensures high_ends { IfOk result (λ c. c.hi ≡ replicate model.now.njmax (plain (pos 0))) }
     {
         Ok(Cert {
             cost2: 0,

@@ -14,6 +14,8 @@ pub mod state;
 pub mod status;
 pub mod tape;
 mod tree;
+pub mod verdict;
+pub mod wants;
 
 pub use bias::Bias;
 pub use carriers::{Applied, Composite, Contact, Contacts, Factor, Frames, Mass};
@@ -29,3 +31,5 @@ pub use rows::{Row, Rows, Source, StepReport, Summary};
 pub use state::State;
 pub use status::{ModelCode, ModelFault, Path, Status};
 pub use tape::{Tape, TapeFault};
+pub use verdict::{Reason, Verdict};
+pub use wants::{Ball, Inverse, Wants};

@@ -72,6 +72,12 @@ pub enum Quantity {
     Velocity,
     /// A position after the step.
     Position,
+    /// The acceleration that a step gives to a row.
+    InverseRate,
+    /// A row's force by itself, from the step's acceleration.
+    InverseForce,
+    /// The whole force at a dof with these forces.
+    InverseLoad,
     /// A radius of an error.
     ErrorBound,
 }
@@ -115,6 +121,9 @@ impl Quantity {
             Quantity::Load => "Load",
             Quantity::Velocity => "Velocity",
             Quantity::Position => "Position",
+            Quantity::InverseRate => "InverseRate",
+            Quantity::InverseForce => "InverseForce",
+            Quantity::InverseLoad => "InverseLoad",
             Quantity::ErrorBound => "ErrorBound",
         }
     }

@@ -104,6 +104,8 @@ impl StepReport {
     /// A report of no rows, with room for the model's.
     pub fn new(alloc: Global, model: &Model) -> Result<StepReport, NoMemory>
         ensures room { IfOk result (λ r. spec.ReportRoom model.now r) }
+        ensures empty { IfOk result (λ r. r.rows.list ≡ []) }
+        ensures count { IfOk result (λ r. r.count ≡ 0) }
     {
         Ok(StepReport {
             format: model.format,

@@ -4,6 +4,7 @@ ghost use Rattle.mj_types.specs.Answers as spec;
 
 use crate::range::Quantity;
 use crate::tape::TapeFault;
+use crate::verdict::Reason;
 use fx_list::Text;
 
 /// Why a model is refused.
@@ -88,7 +89,7 @@ pub struct ModelFault {
     pub path: Path,
 }
 
-/// What a command answers. Words and steps count from 1.
+/// What a command answers. Words, steps and lines count from 1.
 #[derive(Debug, Drop)]
 pub enum Status {
     /// The whole text was written, and no number left its range.
@@ -116,6 +117,11 @@ pub enum Status {
     WriteFault,
     /// Memory was wanted and not found; nothing was written.
     Memory,
+    /// A dump is rejected, first at this line, and why; its verdict was written.
+    Rejected {
+        line: usize,
+        reason: Reason,
+    },
 }
 
 impl Status {
@@ -132,6 +138,7 @@ impl Status {
             Status::ReadFault => 6,
             Status::WriteFault => 7,
             Status::Memory => 8,
+            Status::Rejected { .. } => 9,
         }
     }
 }

@@ -70,9 +70,10 @@ each p all named.Model = all.0
 each p all named.Steps = all.1.0
 each p all named.Tape = all.1.1.0
 each p all named.Dual = all.1.1.1.0
-each p all named.Links = all.1.1.1.1.0
-each p all named.Seed = all.1.1.1.1.1.0
-each p all named.Workers = all.1.1.1.1.1.1.0
+each p all named.Ball = all.1.1.1.1.0
+each p all named.Links = all.1.1.1.1.1.0
+each p all named.Seed = all.1.1.1.1.1.1.0
+each p all named.Workers = all.1.1.1.1.1.1.1.0
 
 -- ---- what is given under a name
 

@@ -1,6 +1,6 @@
 -- The table of commands: the names that each takes, how often each may stand, which are required,
 -- and the values that they take. A format of this project's own.
-use Rattle.std.specs.Prelude.{ℕ, true, false, cond, List, [], ◌∷◌, find, Option, Some, None, codes}
+use Rattle.std.specs.Prelude.{ℕ, Bool, true, false, cond, List, [], ◌∷◌, find, Option, Some, None, codes}
 use Rattle.std.specs.Str.{bytes_eq}
 use Rattle.mj_words.specs.declared.table.Command.{Command}
 use Rattle.mj_words.specs.declared.table.Command.TheVariants as command
@@ -15,7 +15,14 @@ use Rattle.mj_words.specs.declared.table.Rule.{Rule}
 -- the command that a text is
 abbrev pub command_named : List ℕ → Option Command
 command_named text =
-    cond (bytes_eq text (codes "run")) (Some command.Run) (cond (bytes_eq text (codes "gen")) (Some command.Gen) (cond (bytes_eq text (codes "bench")) (Some command.Bench) (cond (bytes_eq text (codes "batch")) (Some command.Batch) None)))
+    cond (bytes_eq text (codes "run")) (Some command.Run) (cond (bytes_eq text (codes "gen")) (Some command.Gen)
+    (cond (bytes_eq text (codes "bench")) (Some command.Bench) (cond (bytes_eq text (codes "batch")) (Some command.Batch)
+    (cond (bytes_eq text (codes "inverse")) (Some command.Inverse) None))))
+
+-- it is the inverse dynamics
+abbrev pub is_inverse : Command → Bool
+is_inverse command.Inverse = true
+is_inverse other = false
 
 -- the text of a name
 abbrev pub text_of : Name → List ℕ
@@ -23,12 +30,13 @@ text_of name.Model = codes "--model"
 text_of name.Steps = codes "--steps"
 text_of name.Tape = codes "--tape"
 text_of name.Dual = codes "--dual"
+text_of name.Ball = codes "--ball"
 text_of name.Links = codes "--links"
 text_of name.Seed = codes "--seed"
 text_of name.Workers = codes "--workers"
 
 abbrev pub all_names : List Name
-all_names = name.Model ∷ name.Steps ∷ name.Tape ∷ name.Dual ∷ name.Links ∷ name.Seed ∷ name.Workers ∷ []
+all_names = name.Model ∷ name.Steps ∷ name.Tape ∷ name.Dual ∷ name.Ball ∷ name.Links ∷ name.Seed ∷ name.Workers ∷ []
 
 -- the name that a text is
 abbrev pub name_of : List ℕ → Option Name
@@ -64,6 +72,7 @@ run_rule name.Model = required form.FileName
 run_rule name.Steps = required (form.Number 0 1000000)
 run_rule name.Tape = optional form.FileName
 run_rule name.Dual = optional form.YesNo
+run_rule name.Ball = optional form.YesNo
 run_rule other = foreign
 
 abbrev pub gen_rule : Name → Rule
@@ -84,11 +93,18 @@ batch_rule name.Tape = repeated 64 form.FileName
 batch_rule name.Workers = required (form.Number 1 64)
 batch_rule other = foreign
 
+abbrev pub inverse_rule : Name → Rule
+inverse_rule name.Model = required form.FileName
+inverse_rule name.Steps = required (form.Number 0 1000000)
+inverse_rule name.Tape = optional form.FileName
+inverse_rule other = foreign
+
 abbrev pub rule : Command → Name → Rule
 rule command.Run name = run_rule name
 rule command.Gen name = gen_rule name
 rule command.Bench name = bench_rule name
 rule command.Batch name = batch_rule name
+rule command.Inverse name = inverse_rule name
 
 -- the rule for a text in a name's place
 abbrev pub rule_from : Command → Option Name → Rule

@@ -13,7 +13,7 @@ use Rattle.mj_words.specs.declared.table.Name.TheVariants as named
 use Rattle.mj_words.specs.declared.table.Form.{Form}
 use Rattle.mj_words.specs.declared.table.Form.TheVariants as form
 use Rattle.mj_words.specs.Numbers.{number_within}
-use Rattle.mj_words.specs.Table.{command_named, text_of, all_names, rule, rule_of}
+use Rattle.mj_words.specs.Table.{command_named, is_inverse, text_of, all_names, rule, rule_of}
 
 -- word k, counted from 0; the empty word past the end
 abbrev pub word : List (List ℕ) → ℕ → List ℕ
@@ -160,6 +160,14 @@ nth_tape words k =
 -- the trace shows each step's dual
 abbrev pub wants_dual : List (List ℕ) → Bool
 wants_dual words = bytes_eq (unwrap_or (given words (codes "--dual")) []) (codes "yes")
+
+-- and a ball around its acceleration
+abbrev pub wants_ball : List (List ℕ) → Bool
+wants_ball words = bytes_eq (unwrap_or (given words (codes "--ball")) []) (codes "yes")
+
+-- and the forces of its rows one by one
+abbrev pub wants_inverse : List (List ℕ) → Bool
+wants_inverse words = is_inverse (command_of words)
 
 -- of a generated model
 abbrev pub link_count : List (List ℕ) → ℕ

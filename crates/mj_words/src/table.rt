@@ -13,6 +13,8 @@ pub enum Command {
     Bench,
     /// A model runs with each of several tapes, and the steps of each run are summed.
     Batch,
+    /// A model runs, and its steps are traced with the forces of their rows one by one.
+    Inverse,
 }
 
 /// A name, after which a value stands.
@@ -26,6 +28,8 @@ pub enum Name {
     Tape,
     /// Whether the trace shows each step's dual.
     Dual,
+    /// Whether the trace shows a ball around each step's acceleration.
+    Ball,
     /// How many links a generated model has.
     Links,
     /// What a generated model is drawn from.
@@ -69,8 +73,20 @@ impl Command {
             Some(Command::Bench)
         } else if text == "batch" {
             Some(Command::Batch)
+        } else if text == "inverse" {
+            Some(Command::Inverse)
         } else {
             None
+        }
+    }
+
+    // Whether it is the inverse dynamics.
+    pub(crate) fn is_inverse(self) -> bool
+        ensures { result ≡ spec.is_inverse self }
+    {
+        match self {
+            Command::Inverse => true,
+            _ => false,
         }
     }
 
@@ -83,6 +99,7 @@ impl Command {
             Command::Gen => gen_rule(name),
             Command::Bench => bench_rule(name),
             Command::Batch => batch_rule(name),
+            Command::Inverse => inverse_rule(name),
         }
     }
 
@@ -107,6 +124,7 @@ impl Name {
             Name::Steps => "--steps",
             Name::Tape => "--tape",
             Name::Dual => "--dual",
+            Name::Ball => "--ball",
             Name::Links => "--links",
             Name::Seed => "--seed",
             Name::Workers => "--workers",
@@ -125,6 +143,8 @@ impl Name {
             Some(Name::Tape)
         } else if text == "--dual" {
             Some(Name::Dual)
+        } else if text == "--ball" {
+            Some(Name::Ball)
         } else if text == "--links" {
             Some(Name::Links)
         } else if text == "--seed" {
@@ -192,6 +212,7 @@ fn run_rule(name: Name) -> Rule
         }),
         Name::Tape => optional(Form::FileName),
         Name::Dual => optional(Form::YesNo),
+        Name::Ball => optional(Form::YesNo),
         _ => foreign(),
     }
 }
@@ -237,6 +258,20 @@ fn batch_rule(name: Name) -> Rule
         }),
         Name::Tape => repeated(64, Form::FileName),
         Name::Workers => required(Form::Number { least: 1, most: 64 }),
+        _ => foreign(),
+    }
+}
+
+fn inverse_rule(name: Name) -> Rule
+    ensures { result ≡ spec.inverse_rule name }
+{
+    match name {
+        Name::Model => required(Form::FileName),
+        Name::Steps => required(Form::Number {
+            least: 0,
+            most: 1_000_000,
+        }),
+        Name::Tape => optional(Form::FileName),
         _ => foreign(),
     }
 }

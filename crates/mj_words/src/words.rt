@@ -168,6 +168,7 @@ fn are_served(command: Command, words: &[String]) -> bool
         && is_served(command, words, Name::Steps)
         && is_served(command, words, Name::Tape)
         && is_served(command, words, Name::Dual)
+        && is_served(command, words, Name::Ball)
         && is_served(command, words, Name::Links)
         && is_served(command, words, Name::Seed)
         && is_served(command, words, Name::Workers)
@@ -320,6 +321,20 @@ pub fn wants_dual(words: &[String]) -> bool
     ensures { result ≡ spec.wants_dual (map string_bytes words.now) }
 {
     given(words, "--dual").unwrap_or("") == "yes"
+}
+
+/// Whether accepted words ask for a ball around each step's acceleration.
+pub fn wants_ball(words: &[String]) -> bool
+    ensures { result ≡ spec.wants_ball (map string_bytes words.now) }
+{
+    given(words, "--ball").unwrap_or("") == "yes"
+}
+
+/// Whether accepted words ask for the forces of each step's rows one by one.
+pub fn wants_inverse(words: &[String]) -> bool
+    ensures { result ≡ spec.wants_inverse (map string_bytes words.now) }
+{
+    command_of(words).is_inverse()
 }
 
 /// How many links accepted words ask for.

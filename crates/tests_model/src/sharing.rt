@@ -11,10 +11,11 @@ use mj_read::{
     RawOption, RawTendon, RawTerm,
 };
 use mj_types::{
-    Applied, Bias, Body, Cert, Composite, Contact, Contacts, Dof, Drive, Dual, DualRow, End,
-    Equality, Factor, Forces, Frames, Geom, GeomKind, Joint, JointKind, Mass, Model, ModelCode,
-    ModelFault, Motor, NoMemory, OutOfRange, Path, Quantity, Range, Row, Rows, Soft, Source, State,
-    Status, StepReport, Stop, Summary, Tape, TapeFault, Tendon, Term,
+    Applied, Ball, Bias, Body, Cert, Composite, Contact, Contacts, Dof, Drive, Dual, DualRow, End,
+    Equality, Factor, Forces, Frames, Geom, GeomKind, Inverse, Joint, JointKind, Mass, Model,
+    ModelCode, ModelFault, Motor, NoMemory, OutOfRange, Path, Quantity, Range, Reason, Row, Rows,
+    Soft, Source, State, Status, StepReport, Stop, Summary, Tape, TapeFault, Tendon, Term, Verdict,
+    Wants,
 };
 use mj_walk::bodies::Inertia;
 use mj_walk::settings::Settings;
@@ -81,6 +82,11 @@ fn each_part_of_a_command_can_be_sent_and_shared() {
     is_shared::<Tape>();
     is_shared::<TapeFault>();
     is_shared::<Status>();
+    is_shared::<Ball>();
+    is_shared::<Inverse>();
+    is_shared::<Wants>();
+    is_shared::<Verdict>();
+    is_shared::<Reason>();
     is_shared::<NoMemory>();
     is_shared::<NoGate>();
     is_shared::<RawModel>();

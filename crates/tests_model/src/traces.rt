@@ -7,10 +7,10 @@ use fx_list::{Array, Listing};
 use fx_num::{Fix, Number, Wide};
 use fx_whole::Divisor;
 use mj_io::{NoMemory, RoomSink};
-use mj_trace::{block, end, refusal, summary};
+use mj_trace::{accepted, ball_line, block, end, refusal, rejected, summary};
 use mj_types::{
-    Cert, Dual, DualRow, End, Forces, ModelCode, ModelFault, Path, Quantity, Row, Soft, Source,
-    State, Status, StepReport, Stop, Summary, TapeFault,
+    Ball, Cert, Dual, DualRow, End, Forces, ModelCode, ModelFault, Path, Quantity, Reason, Row,
+    Soft, Source, State, Status, StepReport, Stop, Summary, TapeFault,
 };
 use std::alloc::{AllocError, Global};
 use std::test::Fail;
@@ -111,6 +111,36 @@ fn kinds_and_codes_have_their_names(rt: HostRuntime) {
     assert_eq!(rt; Quantity::ErrorBound.name(), "ErrorBound");
     assert_eq!(rt; ModelCode::PlaneOffWorld.name(), "PlaneOffWorld");
     assert_eq!(rt; Status::Memory.code(), 8);
+    let rejected = Status::Rejected {
+        line: 9,
+        reason: Reason::Box,
+    };
+    assert_eq!(rt; rejected.code(), 9);
+    assert_eq!(rt; Reason::Feasible.name(), "Feasible");
+    assert_eq!(rt; Quantity::InverseLoad.name(), "InverseLoad");
+}
+
+#[test]
+fn balls_and_verdicts_have_their_lines(rt: HostRuntime) -> Result<(), Fail> {
+    let mut sink = RoomSink::new(rt.alloc(), 200)?;
+    let ball = Ball {
+        shift: 37,
+        low: 137_438_953_366,
+        radius: 0,
+    };
+    assert!(rt; ball_line(&mut sink, Some(ball)).is_ok());
+    assert!(rt; ball_line(&mut sink, None).is_ok());
+    assert!(rt; accepted(&mut sink, 1).is_ok());
+    assert!(rt; rejected(&mut sink, 9, Reason::Box).is_ok());
+    assert_eq!(rt;
+        sink.held(),
+        Some(b"ball 37 137438953366 0\n\
+ball none\n\
+accepted 1\n\
+rejected 9 Box\n"
+            .as_slice())
+    );
+    Ok(())
 }
 
 #[test]

@@ -1,10 +1,8 @@
-//! The tests of numbers, lists, vectors, rotations, text and output: values worked apart from the
+//! The tests of numbers, lists, vectors and rotations: values worked apart from the
 //! program, and what no contract says. They stand in a crate of their own, since a crate with a test is
 //! proved twice.
 #![tactic(auto)]
 
-#[cfg(test)]
-mod cabinets;
 #[cfg(test)]
 mod lists;
 #[cfg(test)]
@@ -12,17 +10,9 @@ mod nears;
 #[cfg(test)]
 mod numbers;
 #[cfg(test)]
-mod pages;
-#[cfg(test)]
 mod shared;
 #[cfg(test)]
 mod sines;
-#[cfg(test)]
-mod sinks;
-#[cfg(test)]
-mod streams;
-#[cfg(test)]
-mod texts;
 #[cfg(test)]
 mod turns;
 #[cfg(test)]

@@ -2,13 +2,8 @@
 use fx_list::{Array, Listing, Text};
 use fx_near::{Band, Near};
 use fx_num::{Fix, Over, Plain, Sum, Wide};
-use fx_text::DecimalFault;
 use fx_vec::{Inertia10, M3, Q4, Sp6, Sum3, Sum6, V3};
 use fx_whole::Divisor;
-use mj_io::{
-    CabinetFault, Failed, FileCabinet, MemCabinet, MemSink, NoMemory, OutSink, Page, RoomSink,
-    SureCabinet,
-};
 
 fn is_shared<T: Send + Sync>() {}
 
@@ -33,15 +28,4 @@ fn each_type_can_be_sent_and_shared() {
     is_shared::<Sum3<Plain, 5>>();
     is_shared::<Sum6<Plain, 5>>();
     is_shared::<Inertia10>();
-    is_shared::<DecimalFault>();
-    is_shared::<MemCabinet>();
-    is_shared::<SureCabinet>();
-    is_shared::<MemSink>();
-    is_shared::<RoomSink>();
-    is_shared::<Page>();
-    is_shared::<FileCabinet<'static, HostRuntime>>();
-    is_shared::<OutSink<'static, HostRuntime>>();
-    is_shared::<NoMemory>();
-    is_shared::<CabinetFault>();
-    is_shared::<Failed>();
 }

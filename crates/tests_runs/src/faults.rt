@@ -14,6 +14,17 @@ const LIMITED_TRACE: &str =
 const TWO_MOTORS_TRACE: &str =
     "trace 1 nq=1 nv=1 steps=2\nstep 1\nq 805306368\nv 3221225472\na 12884901888\nresidual 0\nradius 0 0\nrows 0 idle 0\nstop none\ncost 0 0\nstep 2\nq 3489660928\nv 10737418240\na 30064771072\nresidual 0\nradius 0 0\nrows 0 idle 0\nstop none\ncost 0 0\nend done\n";
 
+// A ball around each step's acceleration, which is exact.
+const SLIDE_BALLS: &str =
+    "trace 1 nq=1 nv=1 steps=3\nstep 1\nq -2147483648\nv -8589934592\na -34359738368\nresidual 0\nradius 0 0\nrows 0 idle 0\nstop none\ncost 0 0\nball 39 549755813888 0\nstep 2\nq -6442450944\nv -17179869184\na -34359738368\nresidual 0\nradius 0 0\nrows 0 idle 0\nstop none\ncost 0 0\nball 39 549755813888 0\nstep 3\nq -12884901888\nv -25769803776\na -34359738368\nresidual 0\nradius 0 0\nrows 0 idle 0\nstop none\ncost 0 0\nball 39 549755813888 0\nend done\n";
+
+// The limit's force by itself is the solver's.
+const LIMITED_INVERSE: &str =
+    "trace 1 nq=1 nv=1 steps=1\nstep 1\nq -3087007744\nv -3758096384\na -15032385536\nresidual 0\nradius 0 0\nrows 1 idle 0\nrow 1 low 1 4718592 4718592 4718592\nstop tolerance 2\ncost -12534142897764475283353632768 -12534142897764475283353632768\ninverse 0 0\nx 1 4718592\nend done\n";
+
+const TWO_MOTORS_INVERSE: &str =
+    "trace 1 nq=1 nv=1 steps=2\nstep 1\nq 805306368\nv 3221225472\na 12884901888\nresidual 0\nradius 0 0\nrows 0 idle 0\nstop none\ncost 0 0\ninverse 0 0\nstep 2\nq 3489660928\nv 10737418240\na 30064771072\nresidual 0\nradius 0 0\nrows 0 idle 0\nstop none\ncost 0 0\ninverse 0 0\nend done\n";
+
 const BATCH: &str =
     "job 1\nsteps 3 of 3\nend done\nrows 0 idle 0\nsweeps 0 tolerance 0 limit 0 none 3\ngap 0\nresidual 0\nq 0.375000000\nv 0.250000000\njob 2\nsteps 3 of 3\nend done\nrows 0 idle 0\nsweeps 0 tolerance 0 limit 0 none 3\ngap 0\nresidual 0\nq -0.125000000\nv 0.250000000\n";
 
@@ -25,7 +36,7 @@ const NO_STEPS: &str =
     "steps 0 of 0\nend done\nrows 0 idle 0\nsweeps 0 tolerance 0 limit 0 none 0\ngap 0\nresidual 0\nq 0.000000000\nv 0.000000000\n";
 
 // A command, how many files it reads, and, where all reads and writes go well, its status and its text.
-const COMMANDS: [(&str, u64, u8, &str); 9] = [
+const COMMANDS: [(&str, u64, u8, &str); 12] = [
     ("run --model slide --steps 3", 1, 0, SLIDE_TRACE),
     (
         "run --model limited --steps 1 --dual yes",
@@ -62,6 +73,14 @@ const COMMANDS: [(&str, u64, u8, &str); 9] = [
         3,
         0,
         BATCH,
+    ),
+    ("run --model slide --steps 3 --ball yes", 1, 0, SLIDE_BALLS),
+    ("inverse --model limited --steps 1", 1, 0, LIMITED_INVERSE),
+    (
+        "inverse --model two --steps 2 --tape short",
+        2,
+        0,
+        TWO_MOTORS_INVERSE,
     ),
     ("gen --links 1 --seed 7", 0, 0, CHAIN),
     ("bench --links 1 --seed 7 --steps 0", 0, 0, NO_STEPS),

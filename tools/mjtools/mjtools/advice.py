@@ -16,8 +16,30 @@ STATUSES = {
     "the beginning of the text.",
     8: "There was no memory for the run, and nothing was written. A tape takes eight bytes a value, and a file its "
     "size.",
+    9: "The dump is rejected. The output is one line, 'rejected LINE REASON': give that line to 'mjtools explain', "
+    "with --dump for what stands there.",
     10: "The program's words aren't text in UTF-8 (a file's name, say), or the system gave none. Nothing was written.",
 }
+
+ACCEPTED = (
+    "All blocks were checked, as many as the number says: the forces obey their rows, the bound bounds the cost of all "
+    "forces that do, and the boxes hold all that cost no more. It isn't checked that the duals belong to a model or a "
+    "motion."
+)
+
+REASONS = {
+    "TooLarge": "The file has more than 67,108,864 bytes: make the dump of fewer steps.",
+    "Form": "This line isn't one that 'mj run --dual yes' writes in this place, or it is missing. Was the trace made "
+    "without --dual yes, cut off, given other line ends, or edited? A line counts only with its line feed.",
+    "Limit": "A number of this line is past its range, or, where it is the line cost, a number that its block's "
+    "numbers give (u, the sums of the cost or of the shortfalls, the size of a box).",
+    "Feasible": "The force isn't within the bounds of its row, which for a limit or a contact are 0 and none.",
+    "Cost": "The first number isn't twice the cost of the block's forces in its dual: forces, duals or cost were "
+    "changed, or don't belong to one step.",
+    "Bound": "The second number isn't the lower bound that the block's forces and dual give.",
+    "Box": "The box isn't the one that the block's forces and dual give.",
+}
+"""Why a dump is rejected."""
 
 MODEL_CODES = {
     "TooLarge": "The file has more than 1,048,576 bytes.",
@@ -175,7 +197,9 @@ KINDS = {
 }
 """Of each kind of number out of range: what its index counts, what happened, and what to do."""
 
-USAGE = """mj run --model FILE --steps N [--tape FILE] [--dual yes|no]
+USAGE = """mj run --model FILE --steps N [--tape FILE] [--dual yes|no] [--ball yes|no]
+mj inverse --model FILE --steps N [--tape FILE]
+mj check --dual FILE
 mj gen --links N --seed N
 mj bench --links N --seed N --steps N
 mj batch --model FILE --steps N --tape FILE [--tape FILE ..] --workers N"""

@@ -68,7 +68,7 @@ def _run(wishes):
     if not mj:
         raise Unusable("mj isn't built: run 'rt run' in crates/mj, or name it by --mj or the variable MJ")
     trace = wishes.out or Path(wishes.model).stem + ".trace"
-    status, told = run(mj, wishes.model, wishes.steps, trace, wishes.tape, wishes.dual)
+    status, told = run(mj, wishes.model, wishes.steps, trace, wishes.tape, wishes.dual, wishes.ball, wishes.inverse)
     print(*told, sep="\n", file=sys.stderr)
     return status
 
@@ -138,7 +138,7 @@ def _explain(wishes):
     elif len(wishes.what) == 1 and " " not in line and line != "end":
         raise Unusable(f"{line}: no such file; mj ends with status 6 then, and writes nothing")
     else:
-        told = explain.explain_line(line, wishes.model, wishes.tape or [])
+        told = explain.explain_line(line, wishes.model, wishes.tape or [], dump=wishes.dump)
     print(*told, sep="\n")
 
 
@@ -148,8 +148,9 @@ def _explain_file(path, wishes):
         head = file.read(4096)
     if head.startswith(b"trace "):
         return explain.explain_trace(path, wishes.model)
-    if head.startswith((b"refused ", b"end ")):
-        return explain.explain_line(head.splitlines()[0].decode(errors="replace"), wishes.model, wishes.tape or [])
+    if head.startswith((b"refused ", b"end ", b"rejected ", b"accepted ")):
+        line = head.splitlines()[0].decode(errors="replace")
+        return explain.explain_line(line, wishes.model, wishes.tape or [], dump=wishes.dump)
     if path.endswith(".csv"):
         return explain.explain_tape(path, wishes.model)
     return explain.explain_model(path, find_mj(wishes.mj))
@@ -184,7 +185,9 @@ COMMANDS = [
             (["model"], {"help": "a model, TOML"}),
             (["--steps", "-n"], {"type": int, "default": 1000, "help": "how many steps (1000)"}),
             (["--tape"], {"metavar": "FILE", "help": "a tape of controls, CSV without headers"}),
-            (["--dual"], {"action": "store_true", "help": "the dual of each step too"}),
+            (["--dual"], {"action": "store_true", "help": "the dual of each step too, for mj check"}),
+            (["--ball"], {"action": "store_true", "help": "how far each acceleration can be off"}),
+            (["--inverse"], {"action": "store_true", "help": "mj inverse: each row's force by itself too"}),
             (["--out", "-o"], {"metavar": "FILE", "help": "the trace; without it MODEL.trace in this folder"}),
             MJ,
         ],
@@ -239,6 +242,7 @@ COMMANDS = [
             ),
             (["--model", "-m"], {"metavar": "FILE", "help": "the model that the line is about"}),
             (["--tape"], {"metavar": "FILE", "action": "append", "help": "the tape that the line is about"}),
+            (["--dump"], {"metavar": "FILE", "help": "the dump that mj check rejected"}),
             MJ,
         ],
     ),

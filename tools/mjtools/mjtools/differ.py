@@ -4,6 +4,8 @@ from dataclasses import dataclass
 
 import numpy as np
 
+from .trace import WISHED
+
 QUANTITIES = {
     "q": 2.0**-32,
     "v": 2.0**-32,
@@ -13,8 +15,11 @@ QUANTITIES = {
     "rows": 1.0,
     "stop": 1.0,
     "cost": 2.0**-88,
+    "ball": 1.0,
+    "inverse": 1.0,
 }
-"""The numbers of a block that are compared, and their units; radii, rows and sweeps are compared as they stand."""
+"""The numbers of a block that are compared, and their units; radii, rows, sweeps, balls and what separated forces tell
+are compared as they stand."""
 
 
 @dataclass(frozen=True)
@@ -41,7 +46,11 @@ class Difference:
 def differences(one, other):
     """What differs in the common steps of two Traces of the same sizes: Differences in the order of the lines."""
     n = min(len(one), len(other))
-    found = [_difference(name, unit, one.raw(name)[:n], other.raw(name)[:n]) for name, unit in QUANTITIES.items()]
+    found = [
+        _difference(name, unit, one.raw(name)[:n], other.raw(name)[:n])
+        for name, unit in QUANTITIES.items()
+        if name not in WISHED or one.tells(name) and other.tells(name)
+    ]
     return [difference for difference in found if difference] + _row_difference(one, other, n)
 
 
@@ -97,6 +106,9 @@ def told(one, other, model=None):
         lines.append(f"steps: {len(one)} of {one.asked} and {len(other)} of {other.asked}")
     if one.end != other.end:
         lines.append(f"end: {_end(one)} and {_end(other)}")
+    for name in ("ball", "inverse"):
+        if one.tells(name) != other.tells(name) and len(one) and len(other):
+            lines.append(f"{name}: {'only the first' if one.tells(name) else 'only the second'} has such lines")
     found = differences(one, other)
     if found:
         first = min(found, key=lambda difference: difference.step)

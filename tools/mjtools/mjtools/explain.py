@@ -1,5 +1,6 @@
 """Refusals, early ends, statuses and files of `mj` in words: what is the matter, on which line, and what to do."""
 
+import itertools
 import re
 
 from . import advice
@@ -15,10 +16,10 @@ from .trace import EARLY_END, read
 FLOAT = re.compile(r"""(?<![\w."'])([-+]?\d*\.\d+(?:[eE][-+]?\d+)?|[-+]?\d+(?:\.\d*)?[eE][-+]?\d+)(?![\w."'])""")
 
 
-def explain_line(line, model=None, tapes=(), words=()):
-    """What a line of `mj` means: a refusal or the end of a trace, as a list of lines. Unusable where it is neither.
+def explain_line(line, model=None, tapes=(), words=(), dump=None):
+    """What a line of `mj` means: a refusal, a verdict or a trace's end, as a list of lines. Unusable where it is none.
 
-    `model` and `tapes` are the files' names, to tell the line; `words` those that mj was called with.
+    `model`, `tapes` and `dump` are the files' names, to tell the line; `words` those that mj was called with.
     """
     parts = line.split()
     told = [line]
@@ -28,6 +29,10 @@ def explain_line(line, model=None, tapes=(), words=()):
         return told + _model(parts[2], parts[3] if len(parts) == 4 else "", model)
     if parts[:2] == ["refused", "tape"] and len(parts) > 3:
         return told + _tape(int(parts[2]), parts[3], [int(part) for part in parts[4:]], tapes)
+    if parts[:1] == ["rejected"] and len(parts) == 3 and parts[1].isdigit():
+        return told + _rejected(int(parts[1]), parts[2], dump)
+    if parts[:1] == ["accepted"] and len(parts) == 2 and parts[1].isdigit():
+        return told + [advice.ACCEPTED]
     if line == "end done":
         return told + ["All steps that were asked for were done."]
     if early := EARLY_END.fullmatch(line.encode()):
@@ -124,6 +129,24 @@ def _quoted(code, path, text, place):
     if code != "FloatValue" or not line:
         return []
     return ["Write: " + FLOAT.sub(r'"\1"', text.splitlines()[line - 1].strip())]
+
+
+def _rejected(number, reason, path):
+    if reason not in advice.REASONS:
+        raise Unusable(f"mj has no reason {reason}")
+    return _line(path, number) + [advice.REASONS[reason]]
+
+
+def _line(path, number):
+    """What stands in this line of a file."""
+    if not path:
+        return []
+    with open(path, "rb") as file:
+        found = next(itertools.islice(file, number - 1, None), None)
+    if found is None:
+        return [f"{path}:{number}: the file has no such line: it ends before"]
+    shown = found[:100].decode(errors="replace").rstrip("\n")
+    return [f"{path}:{number}: {shown}" + " .." * (len(found) > 101)]
 
 
 def _where(path, text, place):

@@ -48,13 +48,16 @@ class Progress:
         self.stream.flush()
 
 
-def run(mj, model, steps, trace, tape=None, dual=False):
+def run(mj, model, steps, trace, tape=None, dual=False, ball=False, inverse=False):
     """Runs `mj` on a model and keeps what it writes in the file `trace`: the status of `mj`, and lines to tell.
 
-    A refusal and a run that wrote nothing leave no file.
+    `inverse` runs `mj inverse`, which has neither duals nor balls. A refusal and a run that wrote nothing leave no
+    file.
     """
-    words = ["run", "--model", str(model), "--steps", str(steps)]
-    words += ["--tape", str(tape)] * (tape is not None) + ["--dual", "yes"] * dual
+    if inverse and (dual or ball):
+        raise Unusable("mj inverse writes neither duals nor balls")
+    words = ["inverse" if inverse else "run", "--model", str(model), "--steps", str(steps)]
+    words += ["--tape", str(tape)] * (tape is not None) + ["--dual", "yes"] * dual + ["--ball", "yes"] * ball
     progress = Progress(steps)
     try:
         with whole_file(trace) as file:

@@ -46,10 +46,8 @@ def figures(trace, model=None):
         ("steps", f"{n} of {trace.asked}{seconds}"),
         ("end", "done" if end.is_done else f"{end.kind} {end.index} out of range in step {end.step}"),
     ]
-    if trace.skipped:
-        pairs.append(("not read", ", ".join(f"{count} lines {name}" for name, count in trace.skipped.items())))
     if n:
-        pairs += _solver(trace) + _gaps(trace) + _errors(trace) + _motion(trace, model)
+        pairs += _solver(trace) + _gaps(trace) + _errors(trace) + _asked(trace) + _motion(trace, model)
     if n and model and len(trace.rows_of("contact")):
         pairs += _touching(trace, model)
     return pairs
@@ -83,6 +81,25 @@ def _errors(trace):
         ("residual", f"at most {trace.residual[worst]:.2g} N or N m (step {worst + 1})"),
         ("radii", f"mass matrix at most {trace.mass_radius.max():.2g}, bias forces {trace.bias_radius.max():.2g} N"),
     ]
+
+
+def _asked(trace):
+    """What a run with --ball yes and one of `mj inverse` tell beside."""
+    pairs = []
+    if trace.tells("ball"):
+        found = ~np.isnan(trace.ball_radius)
+        told = "none in any step"
+        if found.any():
+            worst = int(np.nanargmax(trace.ball_radius))
+            radius = trace.ball_radius[worst]
+            told = f"the acceleration is within {radius:.2g} of its rounded system's (step {worst + 1})"
+            told += f", none in {(~found).sum()} steps" * bool((~found).any())
+        pairs.append(("ball", told))
+    if trace.tells("inverse"):
+        worst, last = int(np.argmax(trace.inverse_gap)), int(np.argmax(trace.discrepancy))
+        pairs.append(("inverse gap", f"at most {trace.inverse_gap[worst]:.3g} N or N m (step {worst + 1})"))
+        pairs.append(("discrepancy", f"at most {trace.discrepancy[last]:.3g} N or N m (step {last + 1})"))
+    return pairs
 
 
 def _motion(trace, model):

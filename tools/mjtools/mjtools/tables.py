@@ -1,5 +1,7 @@
 """Traces as tables of comma-separated values in SI units."""
 
+import numpy as np
+
 from .rows import KINDS
 from .writing import whole_file
 
@@ -7,25 +9,34 @@ BLOCK = 10000
 
 
 def write_states(trace, path, model=None):
-    """A line a step: step, time (with a model), q, v and a of each joint, rows, sweeps, cost, bound, gap, residual."""
+    """A line a step: step, time (with a model), q, v and a of each joint, rows, sweeps, cost, bound, gap, residual;
+    what balls and separated forces tell where the trace has them."""
     positions = model.position_names if model else range(1, trace.nq + 1)
     velocities = model.velocity_names if model else range(1, trace.nv + 1)
     names = ["step"] + ["time"] * bool(model)
     names += [f"q {name}" for name in positions] + [f"{letter} {name}" for letter in "va" for name in velocities]
     columns = [trace.steps] + ([trace.steps * model.timestep] if model else [])
     columns += [*trace.q.T, *trace.v.T, *trace.a.T]
-    for name in ("rows", "sweeps", "cost", "bound", "gap", "residual"):
+    told = ["rows", "sweeps", "cost", "bound", "gap", "residual"]
+    told += ["ball_low", "ball_radius"] * trace.tells("ball") + ["inverse_gap", "discrepancy"] * trace.tells("inverse")
+    for name in told:
         names.append(name)
         columns.append(getattr(trace, name))
     _write(path, names, columns)
 
 
 def write_rows(trace, path):
-    """A line a row line: step, row, kind, id, edge, idle, force, lo, hi, low, high."""
+    """A line a row line: step, row, kind, id, edge, idle, force, lo, hi, low, high, and the separated force where the
+    trace has one (nan of an idle row)."""
     rows = trace.row_lines
     columns = [rows[name] for name in rows.dtype.names]
     columns[rows.dtype.names.index("kind")] = [KINDS[kind] for kind in rows["kind"]]
-    _write(path, rows.dtype.names, columns)
+    names = list(rows.dtype.names)
+    if trace.tells("inverse"):
+        names.append("separated")
+        columns.append(np.full(len(rows), np.nan))
+        columns[-1][~rows["idle"]] = trace.separated
+    _write(path, names, columns)
 
 
 def _write(path, names, columns):

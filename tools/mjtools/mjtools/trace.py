@@ -11,11 +11,11 @@ from .errors import TraceError
 from .lines import LARGEST, integers, large_integers, pieces
 from .rows import KINDS, parse_rows
 
-LINES = ("step", "q", "v", "a", "residual", "radius", "rows", "row", "stop", "cost", "dual")
+LINES = ("step", "q", "v", "a", "residual", "radius", "rows", "row", "stop", "cost", "dual", "ball", "inverse", "x")
 """The kinds of lines that `read` can be asked for. Those of a dual are only found; `Trace.dual` reads them."""
 
-SKIPPED = ("ball", "inverse", "x")
-"""Lines that other words of the program add to a block. They are skipped by name and counted in `Trace.skipped`."""
+WISHED = {"dual": "run it with --dual yes", "ball": "run it with --ball yes", "inverse": "make it by mj inverse"}
+"""Lines that all blocks have, or none, and how to get them."""
 
 HEADER = re.compile(rb"trace (\d+) nq=(\d+) nv=(\d+) steps=(\d+)")
 EARLY_END = re.compile(rb"end out-of-range step=(\d+) kind=(\w+) index=(\d+)")
@@ -36,15 +36,14 @@ class End:
 class Trace:
     """A run of n steps with nq positions and nv velocities. Arrays are made when they are first asked for.
 
-    `path`, `format` (1 or 2), `nq`, `nv`, `asked` (the steps that were asked for), `end` (an End) and `skipped` (how
-    many lines of each skipped kind there are) are plain. Step k stands at place k - 1 of each array.
+    `path`, `format` (1 or 2), `nq`, `nv`, `asked` (the steps that were asked for) and `end` (an End) are plain. Step k
+    stands at place k - 1 of each array.
     """
 
-    def __init__(self, path, header, end, parts, skipped):
+    def __init__(self, path, header, end, parts):
         self.path = path
         self.format, self.nq, self.nv, self.asked = header
         self.end = end
-        self.skipped = skipped
         self._parts = parts
 
     def __len__(self):
@@ -55,8 +54,10 @@ class Trace:
         """The integers of the lines of this name, as they stand in the file.
 
         int64: q (n, nq), v and a (n, nv), radius (n, 2), rows (n, 2), stop (n, 2: 0 none, 1 tolerance, 2 limit, and
-        the sweeps). Python's integers in an object array: residual (n, 1) in 2^-72, cost (n, 2: cost and bound) in
-        2^-88; they have up to 125 bits, so that a difference is to be taken before it becomes a double.
+        the sweeps), x (all rows of all duals, 2: the row and its separated force). Python's integers in an object
+        array: residual (n, 1) in 2^-72, cost (n, 2: cost and bound) in 2^-88, inverse (n, 2: gap in 2^-20, discrepancy
+        in 2^-72), ball (n, 3: shift, low in 2^-40, radius in 2^-32; shift -1 where there is none); they have up to 125
+        bits, so that a difference is to be taken before it becomes a double.
         """
         if name not in self._parts:
             raise AttributeError(f"the lines {name} weren't read: leave out only=, or name them in it")
@@ -65,6 +66,15 @@ class Trace:
     def has(self, *names):
         """Whether the lines of all these names were read."""
         return all(name in self._parts for name in names)
+
+    def tells(self, name):
+        """Whether the trace has lines of this name, one of WISHED, and they were read."""
+        return self.has(name) and len(self._parts[name]) > 0
+
+    def _wished(self, name):
+        if len(self) and not len(self.raw(name)):
+            raise TraceError(f"{self.path}: it has no lines {name}: {WISHED[name]}")
+        return self.raw(name)
 
     @property
     def steps(self):
@@ -154,10 +164,39 @@ class Trace:
         """The row lines of one kind: low, high, tlow, thigh, contact, equality or friction."""
         return self.row_lines[self.row_lines["kind"] == KINDS.index(kind)]
 
+    @cached_property
+    def ball_radius(self):
+        """(n,) how far a can be from the rational solution of the step's own rounded system M x = s, in Euclid's length
+        over all dofs: m/s^2 or rad/s^2; nan where the line is `ball none`. Of a run with --ball yes."""
+        ball = self._wished("ball")
+        return np.where(ball[:, 0] < 0, np.nan, (ball[:, 2] / 2**32).astype(float))
+
+    @cached_property
+    def ball_low(self):
+        """(n,) what the least eigenvalue of the step's mass matrix is at least: kg or kg m^2; nan as ball_radius."""
+        ball = self._wished("ball")
+        return np.where(ball[:, 0] < 0, np.nan, (ball[:, 1] / 2**40).astype(float))
+
+    @cached_property
+    def inverse_gap(self):
+        """(n,) the largest difference of a row's separated force and its force: N or N m. Of mj inverse."""
+        return (self._wished("inverse")[:, 0] / 2**20).astype(float)
+
+    @cached_property
+    def discrepancy(self):
+        """(n,) the largest error of M a = tau - c + J^T x, x the separated forces: N or N m. Of mj inverse."""
+        return (self._wished("inverse")[:, 1] / 2**72).astype(float)
+
+    @cached_property
+    def separated(self):
+        """The separated forces of the rows that aren't idle, in the order of `row_lines`: N or N m. Of mj inverse."""
+        if not len(self.raw("x")) and (self.rows > self.idle).any():
+            raise TraceError(f"{self.path}: it has no lines x: {WISHED['inverse']}")
+        return self.raw("x")[:, 1] * 2.0**-20
+
     def dual(self, step):
         """The dual of this step, from 1, as `run --dual yes` prints it: a `mjtools.Dual`, read from the file anew."""
-        if not self.raw("dual").size:
-            raise TraceError(f"{self.path}: no duals: run it with --dual yes")
+        self._wished("dual")
         if not 1 <= step <= len(self):
             raise IndexError(f"step {step} of {len(self)}")
         return read_dual(self.path, self.raw("dual")[step - 1], self.nv, self.format == 2)
@@ -172,7 +211,7 @@ def read(path, only=None):
     wanted = LINES if only is None else (only,) if isinstance(only, str) else tuple(only)
     if not set(wanted) <= set(LINES):
         raise ValueError(f"only= takes names of lines: {', '.join(LINES)}")
-    if "row" in wanted and "rows" not in wanted:
+    if {"row", "x"} & set(wanted) and "rows" not in wanted:
         wanted += ("rows",)
     return _Reading(str(path), wanted, is_whole=only is None).trace()
 
@@ -183,7 +222,6 @@ class _Reading:
     def __init__(self, path, wanted, is_whole):
         self.path, self.is_whole = path, is_whole
         self.parts = {name: [] for name in wanted}
-        self.skipped = dict.fromkeys(SKIPPED, 0)
         self.header = None
         self.end = None
 
@@ -243,8 +281,8 @@ class _Reading:
         """The numbers of the lines `name` of a text, a row of the array for each; None where they aren't in form."""
         if name == "row":
             return parse_rows(text, self.header[0] == 2)
-        if name in ("residual", "cost"):
-            numbers = large_integers(text)
+        if name in ("residual", "cost", "ball", "inverse"):
+            numbers = large_integers(_without_words(name, text))
         else:
             numbers = integers(_without_words(name, text))
             if numbers is not None and (numbers == LARGEST).any():
@@ -255,7 +293,7 @@ class _Reading:
         return numbers.reshape(-1, width)
 
     def _width(self, name):
-        counts = {"q": self.header[1], "v": self.header[2], "a": self.header[2], "step": 1, "residual": 1}
+        counts = {"q": self.header[1], "v": self.header[2], "a": self.header[2], "step": 1, "residual": 1, "ball": 3}
         return counts.get(name, 2)
 
     def _bad_line(self, name, piece, lines):
@@ -267,13 +305,9 @@ class _Reading:
         return piece.first + lines[0]
 
     def _pass_over(self, piece, known):
-        """Counts the lines that are skipped by name, and refuses any other that wasn't read."""
-        for name in SKIPPED:
-            count = len(piece.named(name.encode()))
-            self.skipped[name] += count
-            known += count
+        """Refuses a line that wasn't read."""
         if known != len(piece):
-            names = [name.encode() for name in LINES + SKIPPED + ("d",)]
+            names = [name.encode() for name in LINES + ("d",)]
             strange = np.setdiff1d(np.arange(len(piece)), np.concatenate([piece.named(name) for name in names]))
             place = strange[strange + piece.first > 1][0]
             word = piece.line(place).split(b" ")[0][:40].decode(errors="replace")
@@ -281,19 +315,21 @@ class _Reading:
 
     def _joined(self):
         """The trace of all pieces, where its blocks are as many as its end tells."""
-        blocks = {name: sum(map(len, part)) for name, part in self.parts.items() if name not in ("row", "dual")}
+        blocks = {name: sum(map(len, part)) for name, part in self.parts.items() if name not in ("row", "x", *WISHED)}
         if self.end is None:
             raise TraceError(f"{self.path}: cut off{_after(blocks)}: it has no end line")
         parts = {name: np.concatenate(self.parts.pop(name)) for name in list(self.parts)}
-        trace = Trace(self.path, self.header, self.end, parts, {k: n for k, n in self.skipped.items() if n})
+        trace = Trace(self.path, self.header, self.end, parts)
         for name, count in blocks.items():
             if count != len(trace):
                 raise TraceError(f"{self.path}: {count} lines {name} for {len(trace)} steps")
         if "step" in parts and (parts["step"][:, 0] != trace.steps).any():
             raise TraceError(f"{self.path}: its steps don't count from 1")
-        if "dual" in parts and len(parts["dual"]) not in (0, len(trace)):
-            raise TraceError(f"{self.path}: some of its steps have a dual, and some have none")
+        for name in WISHED:
+            if name in parts and len(parts[name]) not in (0, len(trace)):
+                raise TraceError(f"{self.path}: some of its steps have a line {name}, and some have none")
         self._number_rows(trace, parts)
+        self._count_separated(parts)
         return trace
 
     def _number_rows(self, trace, parts):
@@ -303,10 +339,25 @@ class _Reading:
             parts["row"]["step"] = np.repeat(trace.steps, parts["rows"][:, 0])
 
 
+    def _count_separated(self, parts):
+        """Refuses lines x that aren't one for each row that isn't idle, in order."""
+        if "x" not in parts:
+            return
+        is_told = len(parts.get("inverse", parts["x"])) > 0
+        if len(parts["x"]) != is_told * (parts["rows"][:, 0] - parts["rows"][:, 1]).sum():
+            raise TraceError(f"{self.path}: there are other lines x than rows that aren't idle")
+        if is_told and "row" in parts:
+            rows = parts["row"]["row"][~parts["row"]["idle"]]
+            if (rows != parts["x"][:, 0]).any():
+                raise TraceError(f"{self.path}: the lines x name other rows than those that aren't idle")
+
+
 def _without_words(name, text):
     """The text of lines of this name with numbers in place of words."""
     if name == "rows":
         return text.replace(b" idle ", b" ")
+    if name == "ball":
+        return text.replace(b"none", b"-1 0 0")
     if name == "stop":
         text = text.replace(b"none", b"0 0")
         return text.replace(b"tolerance ", b"1 ").replace(b"limit ", b"2 ")

@@ -106,6 +106,16 @@ end done
 """
 """Format 2: an equality, free to push either way with 4 N, and a friction of at most 2 N."""
 
+BALLS = SLIDE.replace("step 2", "ball 39 549755813888 0\nstep 2").replace("step 3", "ball none\nstep 3").replace(
+    "end done", "ball 37 137438953366 8589934592\nend done"
+)
+"""Balls of radius 0, none, and 2 m/s^2; the least eigenvalue is at least 0.5 kg, and about 0.125 kg."""
+
+INVERSE = "".join(line for line in FRICTION.splitlines(True) if line[0] != "d").replace(
+    "end done", "inverse 1048576 4722366482869645213696\nx 1 5242880\nx 2 2097152\nend done"
+)
+"""The separated force of the equality is 5 N, 1 N off; then the equation of motion is 1 N off."""
+
 EARLY = SLIDE.replace("end done", "end out-of-range step=4 kind=Position index=1").replace("steps=3", "steps=20")
 
 

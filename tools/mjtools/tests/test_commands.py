@@ -7,7 +7,7 @@ import sys
 
 import mjtools
 import pytest
-from conftest import BALL, EARLY, LIMIT, SLIDE, SLIDE_MODEL, TOP
+from conftest import BALL, BALLS, EARLY, INVERSE, LIMIT, SLIDE, SLIDE_MODEL, TOP
 from mjtools import commands
 from mjtools.writing import whole_file
 
@@ -62,6 +62,21 @@ def test_run_without_a_trace(kept, fake, capfd, tmp_path, said, status, why):
     assert commands.main(["run", str(model), "--mj", fake(said, status), "-o", str(out)]) == status
     assert why in capfd.readouterr().err
     assert out.read_text() == "an earlier trace" and set(os.listdir(tmp_path)) == before
+
+
+def test_run_asks_for_what_is_wished(kept, capfd, tmp_path):
+    model, out = kept("m.toml", SLIDE_MODEL), tmp_path / "t"
+    mj = kept("mj", "#!/bin/sh\necho $*\n")
+    mj.chmod(0o755)
+    for flags, command, ends in (
+        (["--dual"], "run", " --dual yes"),
+        (["--ball", "--dual"], "run", " --dual yes --ball yes"),
+        (["--inverse"], "inverse", ""),
+    ):
+        assert commands.main(["run", str(model), "-n", "3", "--mj", str(mj), "-o", str(out), *flags]) == 0
+        assert out.read_text() == f"{command} --model {model} --steps 3{ends}\n"
+    assert commands.main(["run", str(model), "--mj", str(mj), "--inverse", "--ball"]) == 2
+    assert "neither duals nor balls" in capfd.readouterr().err
 
 
 def test_run_of_a_missing_model(fake, capfd, tmp_path):
@@ -209,6 +224,24 @@ def test_a_table_of_rows(kept, tmp_path):
         "step,row,kind,id,edge,idle,force,lo,hi,low,high",
         "1,1,low,1,0,False,4.5,4.5,4.5,0.0,inf",
     ]
+
+
+def test_tables_of_balls_and_separated_forces(kept, tmp_path):
+    out = tmp_path / "t.csv"
+    assert commands.main(["csv", str(kept("b.trace", BALLS)), "-o", str(out)]) == 0
+    lines = [line.split(",")[-2:] for line in out.read_text().splitlines()]
+    assert lines == [["ball_low", "ball_radius"], ["0.5", "0.0"], ["nan", "nan"], [str(137438953366 / 2**40), "2.0"]]
+    assert commands.main(["csv", "--rows", str(kept("i.trace", INVERSE)), "-o", str(out)]) == 0
+    lines = [line.split(",")[-1] for line in out.read_text().splitlines()]
+    assert lines == ["separated", "5.0", "2.0"]
+
+
+def test_explain_takes_a_verdict(kept, capfd):
+    dump = str(kept("run.dump", LIMIT))
+    assert commands.main(["explain", "rejected", "13", "Limit", "--dump", dump]) == 0
+    assert "run.dump:13: d 1 281474976710656" in capfd.readouterr().out
+    assert commands.main(["explain", str(kept("said", "accepted 1\n"))]) == 0
+    assert commands.main(["explain", "rejected", "13", "Limit", "--dump", dump + "-not"]) == 2
 
 
 def test_every_public_name_has_its_words():

@@ -2,7 +2,7 @@
 
 import mjtools
 import pytest
-from conftest import BALL, EARLY, SLIDE
+from conftest import BALL, BALLS, EARLY, INVERSE, SLIDE
 from mjtools.differ import differences, told
 
 
@@ -60,3 +60,12 @@ def test_names(kept):
     assert told(*traces(kept, SLIDE, other), model)[0] == "first: step 2, v z"
     assert model.position_names == ["z"]
     assert pytest.approx(differences(*traces(kept, SLIDE, other))[0].first) == 2**-32
+
+
+def test_balls_and_separated_forces(kept):
+    (ball,) = differences(*traces(kept, BALLS, BALLS.replace(" 8589934592\nend", " 8589934593\nend")))
+    assert (ball.quantity, ball.step, ball.number, ball.first) == ("ball", 3, 3, 1)
+    (inverse,) = differences(*traces(kept, INVERSE, INVERSE.replace("inverse 1048576", "inverse 1048577")))
+    assert (inverse.quantity, inverse.step, inverse.number) == ("inverse", 1, 1)
+    assert told(*traces(kept, SLIDE, BALLS)) == ["ball: only the second has such lines"]
+    assert told(*traces(kept, BALLS, SLIDE)) == ["ball: only the first has such lines"]

@@ -1,7 +1,7 @@
 """What is told of refusals, early ends and files, by what each stumble wants to know."""
 
 import pytest
-from conftest import BALL, EARLY, SLIDE_MODEL, TOP
+from conftest import BALL, EARLY, LIMIT, SLIDE_MODEL, TOP
 from mjtools import advice, explain
 from mjtools.errors import Unusable
 
@@ -225,3 +225,22 @@ def test_what_the_program_says_of_a_model(kept, mj):
     assert "accepts it" in text
     text = "\n".join(explain.explain_model(kept("m.toml", SLIDE_MODEL.replace("inertial = { mass = 1 }\n", "")), mj))
     assert "kind=Pivot" in text and "joint without mass" in text
+
+
+def test_verdicts(kept):
+    dump = kept("run.dump", LIMIT)
+    text = told("rejected 9 Box", dump=dump)
+    assert f"{dump}:9: row 1 low 1 4718592 4718592 4718592\n" in text and "isn't the one" in text
+    assert "ends before" in told("rejected 15 Form", dump=dump) and "--dual yes" in told("rejected 15 Form")
+    assert "belong to a model" in told("accepted 1")
+    for reason in ("TooLarge", "Form", "Limit", "Feasible", "Cost", "Bound", "Box"):
+        assert len(explain.explain_line(f"rejected 1 {reason}")) == 2
+    assert "rejected LINE REASON" in "\n".join(explain.explain_status(9))
+    for line in ("rejected 9", "rejected x Box", "rejected 9 Colour", "accepted", "accepted x"):
+        with pytest.raises(Unusable):
+            explain.explain_line(line)
+
+
+def test_a_long_line_of_a_dump_is_cut(kept):
+    text = told("rejected 1 Form", dump=kept("d", "1" * 1000 + "\n"))
+    assert ":1: " + "1" * 100 + " ..\n" in text

@@ -1,7 +1,7 @@
 """The figures of a trace."""
 
 import mjtools
-from conftest import BALL, EARLY, SLIDE, SLIDE_MODEL, TOP
+from conftest import BALL, BALLS, EARLY, INVERSE, SLIDE, SLIDE_MODEL, TOP
 from mjtools.stat import figures, verdict
 
 
@@ -33,9 +33,14 @@ def test_a_poor_gap_wants_iterations(kept):
     assert told[1] == "The sweeps ran out in 1 of 1 steps." and "300 to 1,000" in told[2] and "absolute" in told[2]
 
 
-def test_skipped_lines_are_told(kept):
-    trace = mjtools.read(kept("t.trace", SLIDE.replace("end done", "ball none\nend done")))
-    assert dict(figures(trace))["not read"] == "1 lines ball"
+def test_balls_and_separated_forces(kept):
+    told = dict(figures(mjtools.read(kept("b.trace", BALLS))))["ball"]
+    assert told == "the acceleration is within 2 of its rounded system's (step 3), none in 1 steps"
+    none = BALLS.replace("ball 39 549755813888 0", "ball none").replace("ball 37 137438953366 8589934592", "ball none")
+    assert dict(figures(mjtools.read(kept("n.trace", none))))["ball"] == "none in any step"
+    found = dict(figures(mjtools.read(kept("i.trace", INVERSE))))
+    assert found["inverse gap"] == found["discrepancy"] == "at most 1 N or N m (step 1)"
+    assert not {"ball", "inverse gap"} & set(dict(figures(mjtools.read(kept("s.trace", SLIDE)))))
 
 
 def test_which_geoms_touch():

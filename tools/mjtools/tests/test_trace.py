@@ -3,7 +3,7 @@
 import mjtools
 import numpy as np
 import pytest
-from conftest import BALL, EARLY, FRICTION, LIMIT, SLIDE
+from conftest import BALL, BALLS, EARLY, FRICTION, INVERSE, LIMIT, SLIDE
 from mjtools import lines
 
 
@@ -142,11 +142,51 @@ def test_some_lines_alone(kept):
         mjtools.read(path, only="p")
 
 
-def test_lines_of_other_words_are_skipped_by_name(kept):
-    text = BALL.replace("end done", "ball 39 549755813888 0\ninverse 0 0\nx 1 2571753\nx 2 2571753\nend done")
-    trace = mjtools.read(kept("run.trace", text))
-    assert trace.skipped == {"ball": 1, "inverse": 1, "x": 2}
-    assert trace.row_lines.size == 4
+def test_balls(kept):
+    trace = mjtools.read(kept("run.trace", BALLS))
+    assert trace.tells("ball") and not trace.tells("inverse")
+    assert trace.ball_radius[[0, 2]].tolist() == [0, 2] and np.isnan(trace.ball_radius[1])
+    assert trace.ball_low[0] == 0.5 and np.isnan(trace.ball_low[1]) and trace.ball_low[2] == 137438953366 / 2**40
+    assert trace.raw("ball").tolist() == [[39, 549755813888, 0], [-1, 0, 0], [37, 137438953366, 8589934592]]
+    assert mjtools.read(kept("run.trace", BALLS), only="ball").ball_radius[0] == 0
+    large = BALLS.replace(" 8589934592\nend", f" {2**120}\nend")
+    assert mjtools.read(kept("large.trace", large)).ball_radius[2] == 2.0**88
+
+
+def test_separated_forces(kept):
+    trace = mjtools.read(kept("run.trace", INVERSE))
+    assert trace.inverse_gap.tolist() == [1] and trace.discrepancy.tolist() == [1]
+    assert trace.separated.tolist() == [5, 2] and trace.raw("x").tolist() == [[1, 5242880], [2, 2097152]]
+    assert mjtools.read(kept("run.trace", INVERSE), only="x").separated.tolist() == [5, 2]
+
+
+def test_what_a_run_was_not_asked_for(kept):
+    trace = mjtools.read(kept("run.trace", LIMIT))
+    for name, wish in (("ball_radius", "--ball yes"), ("inverse_gap", "mj inverse"), ("separated", "mj inverse")):
+        with pytest.raises(mjtools.TraceError, match=wish):
+            getattr(trace, name)
+
+
+@pytest.mark.parametrize(
+    "text, old, new, why",
+    [
+        ("balls", "ball none\n", "", "some of its steps have a line ball"),
+        ("balls", "ball none", "ball some", ":21: this line ball isn't in form"),
+        ("balls", "ball none", "ball 1 2", ":21: this line ball isn't in form"),
+        ("balls", "ball none", "ball none\nball none", "some of its steps"),
+        ("inverse", "inverse 1048576 4722366482869645213696\n", "", "other lines x"),
+        ("inverse", "x 2 2097152\n", "", "other lines x"),
+        ("inverse", "x 1 5242880\nx 2 2097152\n", "", "other lines x"),
+        ("inverse", "x 2 2097152", "x 3 2097152", "name other rows"),
+        ("inverse", "x 2 2097152", "x 2", "line x isn't in form"),
+        ("slide", "end done", "y 1 2\nend done", "'y' begins no line"),
+    ],
+)
+def test_other_lines_that_are_amiss(kept, text, old, new, why):
+    whole = {"balls": BALLS, "inverse": INVERSE, "slide": SLIDE}[text]
+    assert old in whole
+    with pytest.raises(mjtools.TraceError, match=why):
+        mjtools.read(kept("run.trace", whole.replace(old, new, 1)))
 
 
 @pytest.mark.parametrize(

@@ -18,7 +18,7 @@ returns-in_err-pivot-clause-first c =
     let k = c.args.k in
     let s = c.add_rows.new.sums in
     let are : AreSums m c.args.out.now k s = record { each = c.add_rows.ensures.sums } in
-    let value = ap₂ (λ y (p : ℕ). less y (wide_at s p)) c.mass_of.ensures c.height-last.ensures.height ∙ pivot_from_sum m x c.requires.mass k c.requires.dof c.args.out.now c.requires.room c.requires.rows s are in
+    let value = ap₂ (λ y (p : ℕ). less y (wide_at s p)) c.diagonal.ensures c.height-last.ensures.height ∙ pivot_from_sum c.args.shift.now.mid m x c.requires.mass k c.requires.dof c.args.out.now c.requires.room c.requires.rows s are in
     let r = err_from_is_err_and c.from_residual.result c.from_residual.ensures.1 in
     rw (r.1, r.2) (stop_first _ _ _ (c.in_err-pivot.ensures.first ∙ ap (pivot_fault k) value))
 
@@ -29,12 +29,12 @@ returns-in_err-write_entries-clause-first c =
     let k = c.args.k in
     let s = c.add_rows.new.sums in
     let are : AreSums m c.args.out.now k s = record { each = c.add_rows.ensures.sums } in
-    let value = ap₂ (λ y (p : ℕ). less y (wide_at s p)) c.mass_of.ensures c.height-last.ensures.height ∙ pivot_from_sum m x c.requires.mass k c.requires.dof c.args.out.now c.requires.room c.requires.rows s are in
+    let value = ap₂ (λ y (p : ℕ). less y (wide_at s p)) c.diagonal.ensures c.height-last.ensures.height ∙ pivot_from_sum c.args.shift.now.mid m x c.requires.mass k c.requires.dof c.args.out.now c.requires.room c.requires.rows s are in
     let d = c.divisor.ensures ∙ c.in_ok-pivot.ensures.value ∙ value in
     let r = err_from_is_err_and c.from_residual-in_err-write_entries.result c.from_residual-in_err-write_entries.ensures.1 in
     rw (r.1, r.2)
     (pass_first _ _ _ (c.in_ok-pivot.ensures.first ∙ ap (pivot_fault k) value)
-    (c.in_err-write_entries.ensures.first ∙ faults_from_sums m x c.requires.mass k c.requires.dof c.args.out.now c.requires.room c.requires.rows s are c.divisor.result.d d))
+    (c.in_err-write_entries.ensures.first ∙ faults_from_sums c.args.shift.now.mid m x c.requires.mass k c.requires.dof c.args.out.now c.requires.room c.requires.rows s are c.divisor.result.d d))
 
 pub returns-clause-first : goal.returns-clause-first
 returns-clause-first c =
@@ -43,10 +43,10 @@ returns-clause-first c =
     let k = c.args.k in
     let s = c.add_rows.new.sums in
     let are : AreSums m c.args.out.now k s = record { each = c.add_rows.ensures.sums } in
-    let value = ap₂ (λ y (p : ℕ). less y (wide_at s p)) c.mass_of.ensures c.height-last.ensures.height ∙ pivot_from_sum m x c.requires.mass k c.requires.dof c.args.out.now c.requires.room c.requires.rows s are in
+    let value = ap₂ (λ y (p : ℕ). less y (wide_at s p)) c.diagonal.ensures c.height-last.ensures.height ∙ pivot_from_sum c.args.shift.now.mid m x c.requires.mass k c.requires.dof c.args.out.now c.requires.room c.requires.rows s are in
     let d = c.divisor.ensures ∙ c.in_ok-pivot.ensures.value ∙ value in
     pass_first _ _ _ (c.in_ok-pivot.ensures.first ∙ ap (pivot_fault k) value)
-    (c.in_ok-write_entries.ensures.first ∙ faults_from_sums m x c.requires.mass k c.requires.dof c.args.out.now c.requires.room c.requires.rows s are c.divisor.result.d d)
+    (c.in_ok-write_entries.ensures.first ∙ faults_from_sums c.args.shift.now.mid m x c.requires.mass k c.requires.dof c.args.out.now c.requires.room c.requires.rows s are c.divisor.result.d d)
 
 pub returns-clause-rows : goal.returns-clause-rows
 returns-clause-rows c =
@@ -56,11 +56,11 @@ returns-clause-rows c =
     let f = c.args.out.now in
     let s = c.add_rows.new.sums in
     let are : AreSums m f k s = record { each = c.add_rows.ensures.sums } in
-    let value = ap₂ (λ y (p : ℕ). less y (wide_at s p)) c.mass_of.ensures c.height-last.ensures.height ∙ pivot_from_sum m x c.requires.mass k c.requires.dof f c.requires.room c.requires.rows s are in
+    let value = ap₂ (λ y (p : ℕ). less y (wide_at s p)) c.diagonal.ensures c.height-last.ensures.height ∙ pivot_from_sum c.args.shift.now.mid m x c.requires.mass k c.requires.dof f c.requires.room c.requires.rows s are in
     let same : c.in_ok-pivot.pivot.mid ≡ c.divisor.result.d = sym c.divisor.ensures in
     let d = sym same ∙ c.in_ok-pivot.ensures.value ∙ value in
     let g = c.write_entries.new.out in
-    rows_more m x c.requires.mass k c.requires.dof f c.requires.room c.requires.rows s are g c.divisor.result.d d
+    rows_more c.args.shift.now.mid m x c.requires.mass k c.requires.dof f c.requires.room c.requires.rows s are g c.divisor.result.d d
     (ap (λ xs. number_at xs k) c.write_entries.ensures.pivots ∙ ap (λ y. y.mid) (c.put.ensures.same (plain (pos 0))) ∙ same)
     (subst (λ (y : ℤ). pos (2 ^ 10) ≤ℤ y) same c.in_ok-pivot.ensures.least)
     (subst (λ (y : ℤ). y ≤ℤ pos (2 ^ 60)) same c.in_ok-pivot.ensures.most)

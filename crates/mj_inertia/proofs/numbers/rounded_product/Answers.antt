@@ -35,11 +35,11 @@ returns-in-Ok-clause-small c =
 pub returns-in-Ok-clause-first : goal.returns-in-Ok-clause-first
 returns-in-Ok-clause-first c =
     c.in-Ok.ensures.first
-    ∙ product_first c.product_sum.result.mid c.product_sum.result.rad (spatial c.args.column.now) (spatial c.args.momentum.now) (spatial_radii (λ r. r) c.args.momentum.now)
+    ∙ product_first (2 ^ 62) c.product_sum.result.mid c.product_sum.result.rad (spatial c.args.column.now) (spatial c.args.momentum.now) (spatial_radii (λ r. r) c.args.momentum.now)
     c.product_sum.ensures.mid c.product_sum.ensures.width c.product_sum.ensures.narrow
 
 pub returns-in-Err-clause-first : goal.returns-in-Err-clause-first
 returns-in-Err-clause-first c =
     c.in-Err.ensures.first
-    ∙ product_first c.product_sum.result.mid c.product_sum.result.rad (spatial c.args.column.now) (spatial c.args.momentum.now) (spatial_radii (λ r. r) c.args.momentum.now)
+    ∙ product_first (2 ^ 62) c.product_sum.result.mid c.product_sum.result.rad (spatial c.args.column.now) (spatial c.args.momentum.now) (spatial_radii (λ r. r) c.args.momentum.now)
     c.product_sum.ensures.mid c.product_sum.ensures.width c.product_sum.ensures.narrow

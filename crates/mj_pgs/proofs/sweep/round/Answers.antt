@@ -4,7 +4,8 @@ use Rattle.fx_whole.specs.First.{first_to}
 use Rattle.fx_whole.proofs.FirstLaws.{stop_first, pass_first}
 use Rattle.mj_optimum.specs.Sweep.{sweep}
 use Rattle.mj_types.specs.Problems.{problem, forces, place}
-use Rattle.mj_pgs.specs.Answer.{cost_fault, pass_fault, sweep_fault}
+use Rattle.mj_cost.specs.Costs.{cost_fault}
+use Rattle.mj_pgs.specs.Answer.{pass_fault, sweep_fault}
 use Rattle.mj_pgs.proofs.SweepLaws.{fall, solved}
 use Rattle.mj_pgs.proofs.sweep.round.Goals as goal
 

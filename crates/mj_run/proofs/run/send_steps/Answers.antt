@@ -3,12 +3,14 @@ use Rattle.fx_whole.proofs.JoinedLaws.{joined-none}
 use Rattle.mj_io.proofs.Sent.{sent-then, sent-nothing, sent-past}
 use Rattle.mj_passive.specs.Forces.{AreControls}
 use Rattle.mj_types.specs.Control.{Control}
-use Rattle.mj_step.specs.Steps.{step_state, step_values, dual_at, step_fault}
-use Rattle.mj_trace.specs.Block.{block_text}
+use Rattle.mj_step.specs.Steps.{step_state}
 use Rattle.mj_run.specs.Controls.{controls_at, tape_of}
-use Rattle.mj_run.specs.Run.{asked, state_at, block_at, blocks_text, done_of}
+use Rattle.mj_run.specs.Course.{blocks_text, done_of}
+use Rattle.mj_run.specs.Run.{state_at, course}
+use Rattle.mj_run.specs.Told.{told_fault, told_text}
 use Rattle.mj_run.proofs.ControlLaws.{controls-lawful}
-use Rattle.mj_run.proofs.Steps.{whole, done-early, end-early, blocks-prefix, done-least, state-more, passed-more, refused-here, text-more}
+use Rattle.mj_run.proofs.CourseLaws.{whole, done-early, end-early, blocks-prefix, done-least}
+use Rattle.mj_run.proofs.Steps.{state-more, told-passed, told-refused, told-more}
 use Rattle.mj_run.proofs.run.send_steps.Goals as goal
 
 pub loop-done-init : goal.loop-done-init
@@ -19,9 +21,10 @@ loop-done-init g c =
     record {
       made = c.requires.made;
       fits = c.requires.fits;
+      room = c.requires.inverse;
       state = c.requires.start;
       passed = refl;
-      sent = rw (joined-none (block_at m driven c.args.wants)) (sent-nothing g.S.Sink.holds g.S.Sink.faults c.args.sink.now c.args.page.now);
+      sent = rw (joined-none (course c.args.wants m driven).block) (sent-nothing g.S.Sink.holds g.S.Sink.faults c.args.sink.now c.args.page.now);
       goes_on = λ on. on;
     }
 
@@ -45,11 +48,11 @@ loop-done-preserved g c =
     record {
       made = c.in-Ok.ensures.made;
       fits = c.in-Ok.ensures.fits;
+      room = c.in-Ok.ensures.room;
       state = state-more m driven k s c.send_step.new.runner.state so_far.state (c.in-Ok.ensures.state ∙ ap (step_state m s) row);
-      passed = passed-more m driven k s so_far.state so_far.passed (ap (step_fault m s) (sym row) ∙ sym c.in-Ok.ensures.first);
+      passed = told-passed c.args.wants m driven k s so_far.state so_far.passed (ap (told_fault c.args.wants m s) (sym row) ∙ sym c.in-Ok.ensures.first);
       sent = sent-then so_far.sent c.in-Ok.ensures.sent
-          (text-more m driven c.args.wants k s so_far.state
-          ∙ ap (λ u. blocks_text m driven c.args.wants k ++ block_text m.format m.nq m.nv (k + 1) (step_values m s u) (asked c.args.wants (dual_at m s u))) (sym row));
+          (told-more c.args.wants m driven k s so_far.state ∙ ap (λ u. blocks_text (course c.args.wants m driven) k ++ told_text c.args.wants m k s u) (sym row));
       goes_on = λ on. cc;
     }
 
@@ -63,8 +66,8 @@ returns-in-Err-clause-sent g c =
     let s = c.loop-done.runner.state in
     let so_far = c.loop-done.invariant in
     let row = c.at-row.ensures.value ∙ ap (λ w. controls_at w (tape_of controls) k) c.len.ensures in
-    let refused = refused-here m driven k s c.in-Err.out so_far.state (ap (step_fault m s) (sym row) ∙ sym c.in-Err.ensures.first) in
-    rw (c.in-Err.ensures.sink, c.in-Err.ensures.page, done-early m driven k c.args.steps c.in-Err.out c.loop-done-test.true so_far.passed refused) so_far.sent
+    let refused = told-refused c.args.wants m driven k s c.in-Err.out so_far.state (ap (told_fault c.args.wants m s) (sym row) ∙ sym c.in-Err.ensures.first) in
+    rw (c.in-Err.ensures.sink, c.in-Err.ensures.page, done-early (course c.args.wants m driven).refusal k c.args.steps c.in-Err.out c.loop-done-test.true so_far.passed refused) so_far.sent
 
 pub returns-in-Err-clause-end : goal.returns-in-Err-clause-end
 returns-in-Err-clause-end g c =
@@ -75,8 +78,8 @@ returns-in-Err-clause-end g c =
     let s = c.loop-done.runner.state in
     let so_far = c.loop-done.invariant in
     let row = c.at-row.ensures.value ∙ ap (λ w. controls_at w (tape_of controls) k) c.len.ensures in
-    let refused = refused-here m driven k s c.in-Err.out so_far.state (ap (step_fault m s) (sym row) ∙ sym c.in-Err.ensures.first) in
-    c.early_end.ensures ∙ sym (end-early m driven k c.args.steps c.in-Err.out c.loop-done-test.true so_far.passed refused)
+    let refused = told-refused c.args.wants m driven k s c.in-Err.out so_far.state (ap (told_fault c.args.wants m s) (sym row) ∙ sym c.in-Err.ensures.first) in
+    c.early_end.ensures ∙ sym (end-early (course c.args.wants m driven).refusal k c.args.steps c.in-Err.out c.loop-done-test.true so_far.passed refused)
 
 pub returns-in-Err-clause-goes_on : goal.returns-in-Err-clause-goes_on
 returns-in-Err-clause-goes_on g c = λ on. ap (λ p. p.going) c.in-Err.ensures.page ∙ c.loop-done.invariant.goes_on on
@@ -91,11 +94,10 @@ returns-then-not-is_going-clause-sent g c =
     let s = c.loop-done.runner.state in
     let so_far = c.loop-done.invariant in
     let row = c.at-row.ensures.value ∙ ap (λ w. controls_at w (tape_of controls) k) c.len.ensures in
-    let more = text-more m driven c.args.wants k s so_far.state
-    ∙ ap (λ u. blocks_text m driven c.args.wants k ++ block_text m.format m.nq m.nv (k + 1) (step_values m s u) (asked c.args.wants (dual_at m s u))) (sym row) in
-    let passed = passed-more m driven k s so_far.state so_far.passed (ap (step_fault m s) (sym row) ∙ sym c.in-Ok.ensures.first) in
-    let least = done-least m driven (k + 1) c.args.steps (omega arith) passed in
-    let rest = blocks-prefix m driven c.args.wants (k + 1) (done_of m driven c.args.steps) least in
+    let more = told-more c.args.wants m driven k s so_far.state ∙ ap (λ u. blocks_text (course c.args.wants m driven) k ++ told_text c.args.wants m k s u) (sym row) in
+    let passed = told-passed c.args.wants m driven k s so_far.state so_far.passed (ap (told_fault c.args.wants m s) (sym row) ∙ sym c.in-Ok.ensures.first) in
+    let least = done-least (course c.args.wants m driven).refusal (k + 1) c.args.steps (omega arith) passed in
+    let rest = blocks-prefix (course c.args.wants m driven) (k + 1) (done_of (course c.args.wants m driven) c.args.steps) least in
     sent-past rest.0 (sent-then so_far.sent c.in-Ok.ensures.sent more) rest.1 cc
 
 pub returns : goal.returns
@@ -104,5 +106,5 @@ returns g c =
     let driven = controls_at (length m.motors) (tape_of c.args.controls.now) in
     let so_far = c.loop-done.invariant in
     let all : c.loop-done.done ≡ c.args.steps = omega arith in
-    let done = whole m driven c.loop-done.done c.args.steps all so_far.passed in
+    let done = whole (course c.args.wants m driven).refusal c.loop-done.done c.args.steps all so_far.passed in
     record { sent = rw done.0 so_far.sent; end = sym done.1; goes_on = so_far.goes_on }

@@ -4,10 +4,11 @@ use Rattle.mj_types.specs.Control.{Control}
 use Rattle.mj_types.specs.declared.range.End.TheVariants as finish
 use Rattle.mj_step.specs.Steps.{step_state, step_values, step_fault}
 use Rattle.mj_run.specs.Controls.{controls_at, tape_of}
-use Rattle.mj_run.specs.Run.{state_at, told_at}
+use Rattle.mj_run.specs.Run.{state_at, told_at, refusal_at}
 use Rattle.mj_run.specs.Summing.{summary_to}
 use Rattle.mj_run.proofs.ControlLaws.{controls-lawful}
-use Rattle.mj_run.proofs.Steps.{whole, done-early, end-early, state-more, passed-more, refused-here}
+use Rattle.mj_run.proofs.CourseLaws.{whole, done-early, end-early}
+use Rattle.mj_run.proofs.Steps.{state-more, passed-more, refused-here}
 use Rattle.mj_run.proofs.summing.sum_run.Goals as goal
 
 pub loop-done-init : goal.loop-done-init
@@ -70,8 +71,8 @@ returns-in-Err c =
     let so_far = c.loop-done.invariant in
     let row = c.at-row.ensures.value ∙ ap (λ w. controls_at w (tape_of controls) k) c.len.ensures in
     let refused = refused-here m driven k s c.in-Err.out so_far.state (ap (step_fault m s) (sym row) ∙ sym c.in-Err.ensures.first) in
-    let early = done-early m driven k c.args.steps c.in-Err.out c.loop-done-test.true so_far.passed refused in
-    let last = end-early m driven k c.args.steps c.in-Err.out c.loop-done-test.true so_far.passed refused in
+    let early = done-early (refusal_at m driven) k c.args.steps c.in-Err.out c.loop-done-test.true so_far.passed refused in
+    let last = end-early (refusal_at m driven) k c.args.steps c.in-Err.out c.loop-done-test.true so_far.passed refused in
     let done : c.loop-done.sum.done ≡ k = ap (λ x. x.done) so_far.sums in
     let steps : c.loop-done.sum.steps ≡ c.args.steps = ap (λ x. x.steps) so_far.sums in
     let end : c.loop-done.sum.end ≡ finish.Done = ap (λ x. x.end) so_far.sums in
@@ -92,7 +93,7 @@ returns c =
     let driven = controls_at (length m.motors) (tape_of c.args.controls.now) in
     let so_far = c.loop-done.invariant in
     let all : c.loop-done.done ≡ c.args.steps = omega arith in
-    let done = whole m driven c.loop-done.done c.args.steps all so_far.passed in
+    let done = whole (refusal_at m driven) c.loop-done.done c.args.steps all so_far.passed in
     record {
       made = so_far.made;
       fits = so_far.fits;

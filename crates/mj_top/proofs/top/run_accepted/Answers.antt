@@ -1,4 +1,4 @@
-use Rattle.std.proofs.Common.{Bool, IsTrue, true, false, ◌≡◌, ◌∙◌, ℕ, map, string_bytes, sym, ap, None, subst, refl}
+use Rattle.std.proofs.Common.{inl, inr, Bool, IsTrue, true, false, ◌≡◌, ◌∙◌, ℕ, map, string_bytes, sym, ap, None, subst, refl}
 use Rattle.mj_words.specs.declared.table.Command.{Command}
 use Rattle.mj_words.specs.declared.table.Command.TheVariants as command
 use Rattle.mj_words.specs.Words.{seed_of, link_count}
@@ -66,6 +66,16 @@ pub returns-in-Run-clause-unread : goal.returns-in-Run-clause-unread
 returns-in-Run-clause-unread g c = λ none.
     let wrong : true ≡ false = ap reads_files c.in-Run.ensures ∙ none in absurd (let no : ⊥ = cc in no)
 
+pub returns-in-Inverse-clause-outcome : goal.returns-in-Inverse-clause-outcome
+returns-in-Inverse-clause-outcome g c = λ told.
+    let P = λ (k : Command). IsTrue (reads_files k) → IsTrue (g.C.Cabinet.tells c.args.cabinet.now) in
+    let sure : IsTrue (reads_files command.Inverse) → IsTrue (g.C.Cabinet.tells c.args.cabinet.now) = subst P (sym c.in-Inverse.ensures) told in
+    c.run_files-in-Inverse.ensures.outcome (sure refl)
+
+pub returns-in-Inverse-clause-unread : goal.returns-in-Inverse-clause-unread
+returns-in-Inverse-clause-unread g c = λ none.
+    let wrong : true ≡ false = ap reads_files c.in-Inverse.ensures ∙ none in absurd (let no : ⊥ = cc in no)
+
 pub returns-in-Batch-clause-outcome : goal.returns-in-Batch-clause-outcome
 returns-in-Batch-clause-outcome g c = λ told.
     let P = λ (k : Command). IsTrue (reads_files k) → IsTrue (g.C.Cabinet.tells c.args.cabinet.now) in
@@ -75,3 +85,9 @@ returns-in-Batch-clause-outcome g c = λ told.
 pub returns-in-Batch-clause-unread : goal.returns-in-Batch-clause-unread
 returns-in-Batch-clause-unread g c = λ none.
     let wrong : true ≡ false = ap reads_files c.in-Batch.ensures ∙ none in absurd (let no : ⊥ = cc in no)
+
+pub run_files-requires-clause-run : goal.run_files-requires-clause-run
+run_files-requires-clause-run g c = inl (sym c.in-Run.ensures)
+
+pub run_files-in-Inverse-requires-clause-run : goal.run_files-in-Inverse-requires-clause-run
+run_files-in-Inverse-requires-clause-run g c = inr (sym c.in-Inverse.ensures)

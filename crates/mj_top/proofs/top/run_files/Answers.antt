@@ -1,8 +1,8 @@
 use Rattle.std.proofs.Common.{◌∙◌, map, string_bytes, sym, ap, inr, IsTrue, Bool, subst, List, ℕ}
 use Rattle.mj_io.proofs.Growth.{Gives-held}
 use Rattle.mj_valid.specs.Judging.{judged_bytes}
-use Rattle.mj_words.specs.Words.{wants_dual, step_count, tape_of}
-use Rattle.mj_top.specs.Outcome.{IsFileOutcome, IsOutcome, model_cap}
+use Rattle.mj_words.specs.Words.{step_count, tape_of}
+use Rattle.mj_top.specs.Outcome.{wants_of, IsFileOutcome, IsOutcome, model_cap}
 use Rattle.mj_top.specs.Ends.{TapeRose}
 use Rattle.mj_top.proofs.Endings.{answers-within, file_outcome-is, run_read-rose, cause-from_later, tape_rose-earlier}
 use Rattle.mj_top.proofs.top.run_files.Goals as goal
@@ -24,7 +24,7 @@ returns-in-Ok g c =
     record {
       outcome = λ tells.
           let still = let P = λ (b : Bool). IsTrue b in subst P (sym c.in-Ok.ensures.tells_on) tells in
-          answers-within (IsFileOutcome held_on (wants_dual words) (step_count words) (tape_of words) c.as_slice.result.now) (IsOutcome words held) answer _ _
+          answers-within (IsFileOutcome held_on (wants_of words) (step_count words) (tape_of words) c.as_slice.result.now) (IsOutcome words held) answer _ _
           (file_outcome-is words held held_on (given tells).0 c.as_slice.result.now c.requires.good c.requires.run c.in-Ok.ensures.holds_on (file tells) (bytes tells))
           (c.run_model_file.ensures.outcome still);
       nothing = c.run_model_file.ensures.nothing;

@@ -23,11 +23,13 @@ returns-in-Some g c =
     let answers = answers-from_ends g.S.Sink.holds g.S.Sink.faults before after (IsOutcome words held) (words_refused at) answer meant c.refuse_words.ensures in
     let complete = completes words tells held answer (g.S.Sink.holds before) (g.S.Sink.holds after) counts counts (g.S.Sink.faults before) (g.S.Sink.faults after) answers cause in
     record {
-      headline = λ told. headline c.steps_are_certified.ensures c.steps_are_covered.ensures words held answer (g.S.Sink.holds before) (g.S.Sink.holds after) answers;
+      headline = λ told. headline c.steps_are_certified.ensures c.steps_are_covered.ensures c.solutions_are_in_balls.ensures c.told_forces_are_best.ensures words held answer (g.S.Sink.holds before) (g.S.Sink.holds after) answers;
       ends = λ told. ends-well words held tells answer counts counts (g.S.Sink.faults before) (g.S.Sink.faults after) complete;
       unread = λ none. refl;
       certified = λ m controls k. c.steps_are_certified.ensures m (state_at m controls k) (controls k);
       covered = λ m controls k. c.steps_are_covered.ensures m (state_at m controls k) (controls k);
+      enclosed = λ m controls k. c.solutions_are_in_balls.ensures m (state_at m controls k) (controls k);
+      best = λ m controls k. c.told_forces_are_best.ensures m (state_at m controls k) (controls k);
       outcome = λ told. answers;
       nothing = leaves-from_ends g.S.Sink.holds g.S.Sink.faults before after (words_refused at) answer c.refuse_words.ensures;
       cause = cause;
@@ -50,7 +52,7 @@ returns-in-None g c =
     (g.C.Cabinet.faults c.args.cabinet.now) (g.C.Cabinet.faults c.run_accepted.new.cabinet) (g.S.Sink.faults before) (g.S.Sink.faults after) (sure told) done.cause in
     let Q = λ (p : Option ℕ). is_none p && reads_files (command_of words) ≡ false in
     record {
-      headline = λ told. headline c.steps_are_certified.ensures c.steps_are_covered.ensures words held answer (g.S.Sink.holds before) (g.S.Sink.holds after) (sure told);
+      headline = λ told. headline c.steps_are_certified.ensures c.steps_are_covered.ensures c.solutions_are_in_balls.ensures c.told_forces_are_best.ensures words held answer (g.S.Sink.holds before) (g.S.Sink.holds after) (sure told);
       ends = λ told. ends-well words held tells answer (g.C.Cabinet.faults c.args.cabinet.now) (g.C.Cabinet.faults c.run_accepted.new.cabinet) (g.S.Sink.faults before) (g.S.Sink.faults after) (complete told);
       outcome = sure;
       complete = complete;
@@ -59,4 +61,6 @@ returns-in-None g c =
       unread = λ none. done.unread (subst Q good none);
       certified = λ m controls k. c.steps_are_certified.ensures m (state_at m controls k) (controls k);
       covered = λ m controls k. c.steps_are_covered.ensures m (state_at m controls k) (controls k);
+      enclosed = λ m controls k. c.solutions_are_in_balls.ensures m (state_at m controls k) (controls k);
+      best = λ m controls k. c.told_forces_are_best.ensures m (state_at m controls k) (controls k);
     }

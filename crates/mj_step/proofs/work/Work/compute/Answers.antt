@@ -2,9 +2,15 @@ use Rattle.std.proofs.Common.{sym, ap, ◌∙◌}
 use Rattle.std.proofs.lemmas.Result.{err_from_is_err_and}
 use Rattle.fx_whole.proofs.FirstLaws.{stop_first, pass_first}
 use Rattle.mj_euler.specs.Advance.{state_fault}
+use Rattle.mj_types.specs.declared.dual.Dual.{Dual}
+use Rattle.mj_types.specs.declared.rows.StepReport.{StepReport}
 use Rattle.mj_types.specs.Parts.{number_at}
+use Rattle.mj_types.specs.StepValues.{dual_values}
 use Rattle.mj_step.specs.Steps.{step_fault}
+use Rattle.mj_step.proofs.CertifiedLaws.{told-certified}
+use Rattle.mj_step.proofs.ForceLaws.{solved-same}
 use Rattle.mj_step.proofs.GapLaws.{gap-small}
+use Rattle.mj_step.proofs.PushLaws.{can_push-same}
 use Rattle.mj_step.proofs.work.Work.compute.Goals as goal
 
 pub push_constraints-requires-clause-in_range : goal.push_constraints-requires-clause-in_range
@@ -117,3 +123,22 @@ pub returns-clause-gap : goal.returns-clause-gap
 returns-clause-gap c =
     let told = c.fill_report.ensures.report in
     gap-small c.args.model.now c.args.state.now c.args.controls.now _ (sym c.in_ok-enclose.ensures.first) (ap (λ x. x.cost) told) (ap (λ x. x.bound) told)
+
+pub returns-clause-enclosed : goal.returns-clause-enclosed
+returns-clause-enclosed c =
+    let same = c.fill_report.ensures.dual ∙ c.accelerate.ensures.dual ∙ c.push_constraints.ensures.dual ∙ c.enclose.ensures.dual in
+    told-certified c.args.model.now c.args.state.now c.args.controls.now _ _ _
+    (ap (λ (d : Dual). dual_values d) same ∙ c.in_ok-constrain.ensures.rows.dual_) c.fill_report.ensures.report
+
+pub returns-clause-forces : goal.returns-clause-forces
+returns-clause-forces c =
+    let rows = c.fill_report.ensures.rows ∙ c.accelerate.ensures.rows ∙ c.push_constraints.ensures.rows in
+    let dual = c.fill_report.ensures.dual ∙ c.accelerate.ensures.dual ∙ c.push_constraints.ensures.dual in
+    let forces = c.fill_report.ensures.forces ∙ ap (λ (r : StepReport). r.forces) (c.accelerate.ensures.report ∙ c.push_constraints.ensures.report) in
+    can_push-same c.args.model.now.nv _ _ _ _ _ _ rows dual forces c.push_constraints.ensures.can
+
+pub returns-clause-solved : goal.returns-clause-solved
+returns-clause-solved c =
+    let dual = c.fill_report.ensures.dual ∙ c.accelerate.ensures.dual ∙ c.push_constraints.ensures.dual in
+    let forces = c.fill_report.ensures.forces ∙ ap (λ (r : StepReport). r.forces) (c.accelerate.ensures.report ∙ c.push_constraints.ensures.report) in
+    solved-same _ _ _ _ dual forces c.in_ok-enclose.ensures.solved

@@ -52,3 +52,15 @@ returns-clause-load c =
           ∙ loads m s u w.rows w.dual c.requires.rows w.report.forces c.requires.forces.force _ (ap (λ xs. number_at xs) c.as_slice.ensures ∙ c.requires.load.value) i h);
       small = c.in_ok-fill_load.ensures.small;
     }
+
+pub returns-in_err-fill_load-clause-can : goal.returns-in_err-fill_load-clause-can
+returns-in_err-fill_load-clause-can c =
+    let w = c.args.self.now in
+    can_push c.args.model.now c.args.state.now c.args.controls.now w.rows w.dual c.requires.rows w.report.forces c.requires.in_range
+    (omega (arith, c.requires.made.report.forces.f, c.requires.made.dual.place)) c.requires.forces.force c.requires.forces.small
+
+pub returns-clause-can : goal.returns-clause-can
+returns-clause-can c =
+    let w = c.args.self.now in
+    can_push c.args.model.now c.args.state.now c.args.controls.now w.rows w.dual c.requires.rows w.report.forces c.requires.in_range
+    (omega (arith, c.requires.made.report.forces.f, c.requires.made.dual.place)) c.requires.forces.force c.requires.forces.small

@@ -1,5 +1,0 @@
-use Rattle.mj_own.proofs.PromiseLaws.{bound_holds-over, box_holds-over, feasible-over}
-use Rattle.mj_own.proofs.laws.same_promises.Goals as goal
-
-pub returns : goal.returns
-returns c = record { feasible = feasible-over; bound = bound_holds-over; box_ends = box_holds-over }

@@ -1,0 +1,5 @@
+use Rattle.mj_io.proofs.Sent.{wrote-finished}
+use Rattle.mj_trace.proofs.wanted.inverse_lines.Goals as goal
+
+pub returns : goal.returns
+returns g c = record { wrote = wrote-finished c.finish.result c.new-page.ensures c.send_inverse.ensures.sent c.finish.ensures.sent }
