@@ -20,8 +20,10 @@ use Rattle.mj_run.specs.Run.{course, end_of}
 use Rattle.mj_valid.specs.Judging.{told, judged_bytes}
 use Rattle.mj_words.specs.declared.table.Command.{Command}
 use Rattle.mj_words.specs.declared.table.Command.TheVariants as command
-use Rattle.mj_words.specs.Words.{bad_place, command_of, model_of, step_count, tape_of}
-use Rattle.mj_top.specs.Outcome.{IsRunOutcome, wants_of, Outcome, IsOutcome, IsFileOutcome, IsCommandOutcome, IsWordsOutcome, words_refused, status_of, tape_room, with_summed_tape, bench_of, IsBenchOutcome, with_tape, with_tape_file, with_tape_name, with_model, model_cap}
+use Rattle.mj_types.specs.declared.verdict.Verdict.{Verdict}
+use Rattle.mj_types.specs.declared.verdict.Verdict.TheVariants as verdict
+use Rattle.mj_words.specs.Words.{bad_place, command_of, model_of, step_count, tape_of, dump_of}
+use Rattle.mj_top.specs.Outcome.{IsRunOutcome, wants_of, Outcome, IsOutcome, IsFileOutcome, IsCommandOutcome, IsWordsOutcome, words_refused, status_of, tape_room, with_summed_tape, bench_of, IsBenchOutcome, judged_as, IsDumpOutcome, with_tape, with_tape_file, with_tape_name, with_model, model_cap}
 use Rattle.mj_top.specs.Ends.{IsRun, Answers, LeavesSink, HasCause, Completes, RunReadRose, BatchReadRose, CommandReadRose, ReadRose, TapeRose, HasLaterCause, Ends, EndsOrMemory, EndsMeant, unless_failed}
 
 -- a status that tells of an outcome, and of no fault
@@ -197,6 +199,15 @@ pub bench-later : (seed links n : ℕ) (o : Outcome) → IsBenchOutcome seed lin
 bench-later seed links n o meant =
     let P = λ (x : Outcome). IsLater x.status in subst P (sym meant.2) (later-bench seed links n meant.0)
 
+-- and so does the check of a dump
+later-judged : (found : Verdict) → IsLater (judged_as found).status
+later-judged (verdict.Accepted blocks) = tt
+later-judged (verdict.Rejected line reason) = tt
+
+pub dump-later : (bytes : List ℕ) (o : Outcome) → IsDumpOutcome bytes o → IsLater o.status
+dump-later bytes o meant =
+    let P = λ (x : Outcome). IsLater x.status in subst P (sym meant.2) (later-judged meant.0)
+
 -- the cause of an answer that comes after judging the words, as the whole command's
 pub cause-from_later : (words : List (List ℕ)) (tells : Bool) (held : List ℕ → Option (List ℕ)) (Read : Type 0) (answer : Status) (reads reads' : List ℕ → ℕ) (writes writes' : ℕ) → bad_place words ≡ None → (Read → answer ≡ status.ReadFault → ReadRose words tells held reads reads') → HasLaterCause Read answer writes writes' → HasCause words tells held answer reads reads' writes writes'
 cause-from_later words tells held Read status.Done reads reads' writes writes' good rose cause = good
@@ -267,3 +278,10 @@ run_read-rose words tells held reads reads' (inr inverse) rose =
 pub batch_read-rose : (words : List (List ℕ)) (tells : Bool) (held : List ℕ → Option (List ℕ)) (reads reads' : List ℕ → ℕ) → command_of words ≡ command.Batch → BatchReadRose words tells held reads reads' → ReadRose words tells held reads reads'
 batch_read-rose words tells held reads reads' batch rose =
     let P = λ (k : Command). CommandReadRose k words tells held reads reads' in subst P (sym batch) rose
+
+-- and of a check
+pub check_read-rose : (words : List (List ℕ)) (tells : Bool) (held : List ℕ → Option (List ℕ)) (reads reads' : List ℕ → ℕ) → command_of words ≡ command.Check → (name : List ℕ) → dump_of words ≡ name → Rose (reads name) (reads' name) → ReadRose words tells held reads reads'
+check_read-rose words tells held reads reads' check name named rose =
+    let P = λ (k : Command). CommandReadRose k words tells held reads reads' in
+    let Q = λ (n : List ℕ). Rose (reads n) (reads' n) in
+    subst P (sym check) (subst Q (sym named) rose)

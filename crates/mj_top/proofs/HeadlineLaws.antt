@@ -31,12 +31,16 @@ use Rattle.mj_run.proofs.Steps.{told-none}
 use Rattle.mj_valid.specs.Judging.{told, judged_bytes}
 use Rattle.mj_words.specs.declared.table.Command.{Command}
 use Rattle.mj_words.specs.declared.table.Command.TheVariants as command
-use Rattle.mj_words.specs.Words.{bad_place, command_of, model_of, step_count, tape_of, seed_of, link_count}
-use Rattle.mj_top.specs.Outcome.{wants_of, Outcome, status_of, IsOutcome, IsWordsOutcome, IsCommandOutcome, IsRunOutcome, IsBenchOutcome, IsBatchOutcome, IsTapesOutcomeOf, AreFirstTapes, RunsAll, RefusesNext, generated, model_cap, bench_of, benched, with_summed_tape, summed, batched, ran, with_tape, with_tape_file, with_tape_name, with_model, tape_room, tape_cap, tape_refused}
+use Rattle.mj_types.specs.declared.verdict.Verdict.{Verdict}
+use Rattle.mj_types.specs.declared.verdict.Verdict.TheVariants as verdict
+use Rattle.mj_check.specs.Verdict.{IsVerdict}
+use Rattle.mj_check.proofs.VerdictLaws.{accepted-holds}
+use Rattle.mj_words.specs.Words.{bad_place, command_of, model_of, step_count, tape_of, seed_of, link_count, dump_of}
+use Rattle.mj_top.specs.Outcome.{wants_of, Outcome, status_of, IsOutcome, IsWordsOutcome, IsCommandOutcome, IsRunOutcome, IsBenchOutcome, IsBatchOutcome, IsCheckOutcome, judged_as, dump_cap, IsTapesOutcomeOf, AreFirstTapes, RunsAll, RefusesNext, generated, model_cap, bench_of, benched, with_summed_tape, summed, batched, ran, with_tape, with_tape_file, with_tape_name, with_model, tape_room, tape_cap, tape_refused}
 use Rattle.mj_top.specs.Ends.{Answers, EndsWhole, Completes}
 use Rattle.mj_top.proofs.Endings.{outcome-is}
 use Rattle.mj_top.proofs.Once.{outcomes-one}
-use Rattle.mj_top.specs.Headline.{IsSound, IsEnd, IsModelUnder, IsTapeUnder, IsTraced, IsRunTraced, Achieves, IsHeadline, IsAccepted, EndsWell}
+use Rattle.mj_top.specs.Headline.{HoldsAccepted, IsDumpChecked, IsSound, IsEnd, IsModelUnder, IsTapeUnder, IsTraced, IsRunTraced, Achieves, IsHeadline, IsAccepted, EndsWell}
 
 -- ---- options and results
 some-same : {A : Type 0} (x y : A) → Some x ≡ Some y → x ≡ y
@@ -165,12 +169,34 @@ module _ (certified : (m : Model) (s : State) (u : List Control) → IsCertified
     of_gen : o ≡ generated (seed_of words) (link_count words) → Grew old (chain_text (seed_of words) (link_count words)) new
     of_gen e = let P = λ (x : Outcome). Grew old x.text new in subst P e ends.grew
 
+    -- ---- a check
+    holds-accepted : (bytes : List ℕ) (found : Verdict) → IsVerdict bytes found → HoldsAccepted bytes found
+    holds-accepted bytes (verdict.Accepted blocks) judged = accepted-holds bytes blocks judged
+    holds-accepted bytes (verdict.Rejected line reason) judged = tt
+
+    of_check : IsCheckOutcome held words o → IsDumpChecked words held answer old new
+    of_check meant =
+        let bytes = take dump_cap meant.0 in
+        let found = meant.2.0 in
+        let P = λ (x : Outcome). Grew old x.text new in (
+          meant.0,
+          found,
+          meant.1,
+          record {
+            judged = meant.2.1;
+            gained = subst P meant.2.2 ends.grew;
+            end = ends.same ∙ ap (λ x. x.status) meant.2.2;
+            holds = holds-accepted bytes found meant.2.1;
+          },
+        )
+
     of_command : (kind : Command) → IsCommandOutcome held kind words o → Achieves kind words held answer old new
     of_command command.Run meant = of_run meant
     of_command command.Gen meant = of_gen meant
     of_command command.Bench meant = of_bench meant
     of_command command.Batch meant = of_batch meant
     of_command command.Inverse meant = of_run meant
+    of_command command.Check meant = of_check meant
 
   -- what ended was written whole
   ended : (Meant : Outcome → Type 0) (answer : Status) (old new : Option (List ℕ)) → IsEnd answer → Answers Meant answer old new → (o : Outcome) × Meant o × EndsWhole o old answer new
@@ -178,7 +204,7 @@ module _ (certified : (m : Model) (s : State) (u : List Control) → IsCertified
   ended Meant (status.BadWords at) old new end answers = absurd end
   ended Meant (status.OutOfRange step kind index) old new end answers = answers
   ended Meant (status.BadModel fault) old new end answers = absurd end
-  ended Meant (status.Rejected line reason) old new end answers = absurd end
+  ended Meant (status.Rejected line reason) old new end answers = answers
   ended Meant (status.BadTape tape fault) old new end answers = absurd end
   ended Meant status.ReadFault old new end answers = absurd end
   ended Meant status.WriteFault old new end answers = absurd end

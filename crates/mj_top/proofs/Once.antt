@@ -16,13 +16,15 @@ use Rattle.mj_types.specs.declared.status.ModelFault.{ModelFault}
 use Rattle.mj_types.specs.declared.tape.TapeFault.{TapeFault}
 use Rattle.mj_tape.specs.Judging.{TapeValues, tape_verdict}
 use Rattle.mj_gen.specs.Chain.{chain_text}
+use Rattle.mj_check.specs.Verdict.{IsVerdict}
 use Rattle.mj_run.specs.Batch.{no_tape, tape_at}
 use Rattle.mj_valid.specs.Judging.{accepted_of, told, judged_bytes}
 use Rattle.mj_words.specs.declared.table.Command.{Command}
 use Rattle.mj_words.specs.declared.table.Command.TheVariants as command
-use Rattle.mj_words.specs.Words.{bad_place, command_of, model_of, step_count, tape_of, tape_count, nth_tape, seed_of, link_count, value, value_count, is_tape, is_nth}
+use Rattle.mj_check.proofs.VerdictLaws.{verdict-one as dump_verdict-one}
+use Rattle.mj_words.specs.Words.{bad_place, command_of, model_of, step_count, tape_of, tape_count, nth_tape, seed_of, link_count, dump_of, value, value_count, is_tape, is_nth}
 use Rattle.mj_top.specs.Once.{AskAlike}
-use Rattle.mj_top.specs.Outcome.{wants_of, Outcome, IsOutcome, IsWordsOutcome, IsCommandOutcome, IsRunOutcome, IsFileOutcome, IsBenchOutcome, IsBatchOutcome, IsTapesOutcome, IsTapesOutcomeOf, IsTapeJudged, AreFirstTapes, RunsAll, RefusesNext, with_model, bench_of, batched, kept_before, tape_room, tape_cap, model_cap, tape_refused}
+use Rattle.mj_top.specs.Outcome.{wants_of, Outcome, IsOutcome, IsWordsOutcome, IsCommandOutcome, IsRunOutcome, IsFileOutcome, IsBenchOutcome, IsBatchOutcome, IsCheckOutcome, judged_as, dump_cap, IsTapesOutcome, IsTapesOutcomeOf, IsTapeJudged, AreFirstTapes, RunsAll, RefusesNext, with_model, bench_of, batched, kept_before, tape_room, tape_cap, model_cap, tape_refused}
 
 -- ---- a model is what it holds
 models-told : (a b : Model) → accepted_of a ≡ accepted_of b → a ≡ b
@@ -171,12 +173,19 @@ module _ (held : List ℕ → Option (List ℕ)) (words : List (List ℕ)) where
       let judged = told-one p.0 q.0 (p.1 ∙ sym q.1) in
       p.2 ∙ ap (bench_of (seed_of words) (link_count words) (step_count words)) judged ∙ sym q.2
 
+  check-one : (o o' : Outcome) → IsCheckOutcome held words o → IsCheckOutcome held words o' → o ≡ o'
+  check-one o o' p q =
+      let file : p.0 ≡ q.0 = some-one (held (dump_of words)) p.0 q.0 p.1 q.1 in
+      let P = λ (b : List ℕ). IsVerdict (take dump_cap b) q.2.0 in
+      p.2.2 ∙ ap judged_as (dump_verdict-one (take dump_cap p.0) p.2.0 q.2.0 p.2.1 (subst P (sym file) q.2.1)) ∙ sym q.2.2
+
   command-one : (c : Command) (o o' : Outcome) → IsCommandOutcome held c words o → IsCommandOutcome held c words o' → o ≡ o'
   command-one command.Run o o' p q = run-one o o' p q
   command-one command.Gen o o' p q = p ∙ sym q
   command-one command.Bench o o' p q = bench-one o o' p q
   command-one command.Batch o o' p q = batch-one o o' p q
   command-one command.Inverse o o' p q = run-one o o' p q
+  command-one command.Check o o' p q = check-one o o' p q
 
   words-one : (bad : Option ℕ) (o o' : Outcome) → IsWordsOutcome held words bad o → IsWordsOutcome held words bad o' → o ≡ o'
   words-one (Some at) o o' p q = p ∙ sym q

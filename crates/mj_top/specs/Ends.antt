@@ -9,7 +9,7 @@ use Rattle.mj_tape.specs.Judging.{TapeValues}
 use Rattle.mj_valid.specs.Judging.{accepted_of, judged_bytes}
 use Rattle.mj_words.specs.declared.table.Command.{Command}
 use Rattle.mj_words.specs.declared.table.Command.TheVariants as command
-use Rattle.mj_words.specs.Words.{bad_place, command_of, model_of, tape_of, nth_tape}
+use Rattle.mj_words.specs.Words.{bad_place, command_of, model_of, tape_of, nth_tape, dump_of}
 use Rattle.mj_top.specs.Outcome.{Outcome, IsOutcome, AreFirstTapes, model_cap}
 
 -- the status is the outcome's, and its whole text was written
@@ -97,6 +97,7 @@ CommandReadRose command.Gen words tells held reads reads' = ⊥
 CommandReadRose command.Bench words tells held reads reads' = ⊥
 CommandReadRose command.Batch words tells held reads reads' = BatchReadRose words tells held reads reads'
 CommandReadRose command.Inverse words tells held reads reads' = RunReadRose words tells held reads reads'
+CommandReadRose command.Check words tells held reads reads' = Rose (reads (dump_of words)) (reads' (dump_of words))
 
 abbrev pub ReadRose :
     List (List ℕ) → Bool → (List ℕ → Option (List ℕ)) → (List ℕ → ℕ) → (List ℕ → ℕ) → Type 0

@@ -6,6 +6,8 @@ use Rattle.mj_types.specs.Control.{Control}
 use Rattle.mj_types.specs.declared.model.Model.{Model}
 use Rattle.mj_types.specs.declared.status.Status.{Status}
 use Rattle.mj_types.specs.declared.status.Status.TheVariants as status
+use Rattle.mj_types.specs.declared.verdict.Verdict.{Verdict}
+use Rattle.mj_types.specs.declared.verdict.Verdict.TheVariants as verdict
 use Rattle.mj_types.specs.declared.wants.Wants.{Wants}
 use Rattle.mj_tape.specs.Judging.{TapeValues, tape_verdict}
 use Rattle.mj_gen.specs.Chain.{chain_text}
@@ -22,8 +24,9 @@ use Rattle.mj_run.specs.Summing.{run_summary_text}
 use Rattle.mj_run.specs.Told.{AreBest}
 use Rattle.mj_words.specs.declared.table.Command.{Command}
 use Rattle.mj_words.specs.declared.table.Command.TheVariants as command
-use Rattle.mj_words.specs.Words.{bad_place, command_of, model_of, step_count, tape_of, tape_count, seed_of, link_count}
-use Rattle.mj_top.specs.Outcome.{status_of, wants_of, model_cap, tape_cap, tape_room, AreFirstTapes, IsOutcome}
+use Rattle.mj_words.specs.Words.{bad_place, command_of, model_of, step_count, tape_of, tape_count, seed_of, link_count, dump_of}
+use Rattle.mj_check.specs.Verdict.{IsVerdict, BlocksHold}
+use Rattle.mj_top.specs.Outcome.{status_of, wants_of, judged_as, model_cap, tape_cap, dump_cap, tape_room, AreFirstTapes, IsOutcome}
 use Rattle.mj_top.specs.Ends.{Answers, LeavesSink, HasCause, Completes, ReadRose}
 
 -- step k + 1 isn't refused; the forces that are printed of it are feasible, and the bound and the box
@@ -40,10 +43,11 @@ pub record IsSound (m : Model) (controls : ℕ → List Control) (k : ℕ) : Typ
 abbrev pub AreModelOf : List ℕ → Model → Type 0
 AreModelOf bytes m = judged_bytes bytes ≡ Ok (accepted_of m)
 
--- the answer of runs that were written whole
+-- the answer of a text that was written whole, and is no refusal of the input
 abbrev pub IsEnd : Status → Type 0
 IsEnd status.Done = Unit {0}
 IsEnd (status.OutOfRange step kind index) = Unit {0}
+IsEnd (status.Rejected line reason) = Unit {0}
 IsEnd answer = ⊥
 
 module _ (held : List ℕ → Option (List ℕ)) where
@@ -109,6 +113,26 @@ IsRunTraced words held answer old new =
     (m : Model) × (tape : Option TapeValues) × AreGiven words held m tape
     × IsTraced (wants_of words) m (controls_at (length m.motors) tape) (step_count words) answer old new
 
+-- a dump that is accepted: in each of its blocks the forces are feasible, and the bound and the box hold, for
+-- whatever dual its lines tell
+abbrev pub HoldsAccepted : List ℕ → Verdict → Type 0
+HoldsAccepted bytes (verdict.Accepted blocks) = BlocksHold bytes blocks
+HoldsAccepted bytes (verdict.Rejected line reason) = Unit {0}
+
+-- these bytes are judged so, the answer and the line say it, and where they are accepted their blocks hold
+pub record IsChecked (bytes : List ℕ) (found : Verdict) (answer : Status) (old new : Option (List ℕ)) : Type 0 where
+  pub judged : IsVerdict bytes found
+  pub gained : Grew old (judged_as found).text new
+  pub end : answer ≡ (judged_as found).status
+  pub holds : HoldsAccepted bytes found
+
+-- the dump that the words' file is
+abbrev pub IsDumpChecked :
+    List (List ℕ) → (List ℕ → Option (List ℕ)) → Status → Option (List ℕ) → Option (List ℕ) → Type 0
+IsDumpChecked words held answer old new =
+    (file : List ℕ) × (found : Verdict) × (held (dump_of words) ≡ Some file)
+    × IsChecked (take dump_cap file) found answer old new
+
 -- what a command that ended has done
 abbrev pub Achieves :
     Command → List (List ℕ) → (List ℕ → Option (List ℕ)) → Status → Option (List ℕ) → Option (List ℕ) → Type 0
@@ -121,6 +145,7 @@ Achieves command.Batch words held answer old new =
     (m : Model) × (tapes : List TapeValues) × AreAllGiven words held m tapes
     × AreSummed m tapes (step_count words) answer old new
 Achieves command.Inverse words held answer old new = IsRunTraced words held answer old new
+Achieves command.Check words held answer old new = IsDumpChecked words held answer old new
 
 -- the headline: accepted words, where the answer is an end, have done what their command says
 abbrev pub IsHeadline :
@@ -136,6 +161,7 @@ IsAccepted command.Gen words held = Unit {0}
 IsAccepted command.Bench words held = (m : Model) × (tape : TapeValues) × AreGenerated words m tape
 IsAccepted command.Batch words held = (m : Model) × (tapes : List TapeValues) × AreAllGiven words held m tapes
 IsAccepted command.Inverse words held = (m : Model) × (tape : Option TapeValues) × AreGiven words held m tape
+IsAccepted command.Check words held = (file : List ℕ) × (held (dump_of words) ≡ Some file)
 
 -- accepted input ends where no count rose, unless memory was wanted
 abbrev pub EndsWell :
@@ -152,6 +178,7 @@ reads_files command.Gen = false
 reads_files command.Bench = false
 reads_files command.Batch = true
 reads_files command.Inverse = true
+reads_files command.Check = true
 
 -- the words do: refused ones read none
 abbrev pub read_files : List (List ℕ) → Bool

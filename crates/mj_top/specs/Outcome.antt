@@ -13,11 +13,15 @@ use Rattle.mj_gen.specs.Chain.{chain_text}
 use Rattle.mj_gen.specs.Tape.{tape_text}
 use Rattle.mj_tape.specs.Judging.{TapeValues, tape_verdict}
 use Rattle.mj_trace.specs.Refusal.{words_refusal, model_refusal, tape_refusal}
+use Rattle.mj_trace.specs.Verdicts.{accepted_text, rejected_text}
+use Rattle.mj_types.specs.declared.verdict.Verdict.{Verdict}
+use Rattle.mj_types.specs.declared.verdict.Verdict.TheVariants as verdict
+use Rattle.mj_check.specs.Verdict.{IsVerdict}
 use Rattle.mj_valid.specs.Judging.{told, judged_bytes}
 use Rattle.mj_run.specs.Controls.{controls_at}
 use Rattle.mj_words.specs.declared.table.Command.{Command}
 use Rattle.mj_words.specs.declared.table.Command.TheVariants as command
-use Rattle.mj_words.specs.Words.{bad_place, command_of, model_of, step_count, wants_dual, wants_ball, wants_inverse, tape_of, tape_count, nth_tape, seed_of, link_count}
+use Rattle.mj_words.specs.Words.{bad_place, command_of, model_of, step_count, wants_dual, wants_ball, wants_inverse, tape_of, tape_count, nth_tape, seed_of, link_count, dump_of}
 use Rattle.mj_run.specs.Batch.{tape_at, batch_text, batch_end}
 use Rattle.mj_run.specs.Course as courses
 use Rattle.mj_run.specs.Run.{end_of, course, trace_text}
@@ -83,6 +87,9 @@ model_cap = 1048577
 abbrev pub tape_cap : ℕ
 tape_cap = 67108865
 
+abbrev pub dump_cap : ℕ
+dump_cap = 67108865
+
 -- what is read of a tape's file
 abbrev pub with_tape_file : Wants → ℕ → Model → List ℕ → Outcome
 with_tape_file wants n m held = with_tape wants n m (tape_verdict (length m.motors) n tape_room (take tape_cap held))
@@ -124,6 +131,18 @@ batched n m tapes = record {
   status = status_of (batch_end m n tapes);
   text = batch_text m n tapes;
 }
+
+-- a dump is judged so
+abbrev pub judged_as : Verdict → Outcome
+judged_as (verdict.Accepted blocks) = written (accepted_text blocks)
+judged_as (verdict.Rejected line reason) = record {
+  status = status.Rejected line reason;
+  text = rejected_text line reason;
+}
+
+-- of the bytes of a dump
+abbrev pub IsDumpOutcome : List ℕ → Outcome → Type 0
+IsDumpOutcome bytes outcome = (found : Verdict) × IsVerdict bytes found × (outcome ≡ judged_as found)
 
 -- ---- a batch, by its words and the files that are held
 module _ (held : List ℕ → Option (List ℕ)) (words : List (List ℕ)) (m : Model) where
@@ -190,6 +209,11 @@ module _ (held : List ℕ → Option (List ℕ)) where
       (file : List ℕ) × (held (model_of words) ≡ Some file)
       × IsFileOutcome (wants_of words) (step_count words) (tape_of words) (take model_cap file) outcome
 
+  -- `check`: of the dump's file
+  abbrev pub IsCheckOutcome : List (List ℕ) → Outcome → Type 0
+  IsCheckOutcome words outcome =
+      (file : List ℕ) × (held (dump_of words) ≡ Some file) × IsDumpOutcome (take dump_cap file) outcome
+
   -- of each command
   abbrev pub IsCommandOutcome : Command → List (List ℕ) → Outcome → Type 0
   IsCommandOutcome command.Run words outcome = IsRunOutcome words outcome
@@ -198,6 +222,7 @@ module _ (held : List ℕ → Option (List ℕ)) where
       IsBenchOutcome (seed_of words) (link_count words) (step_count words) outcome
   IsCommandOutcome command.Batch words outcome = IsBatchOutcome held words outcome
   IsCommandOutcome command.Inverse words outcome = IsRunOutcome words outcome
+  IsCommandOutcome command.Check words outcome = IsCheckOutcome words outcome
 
   -- the words are refused, or do what their command does
   abbrev pub IsWordsOutcome : List (List ℕ) → Option ℕ → Outcome → Type 0

@@ -3,6 +3,7 @@
 
 pub mod batch;
 mod bench;
+mod checking;
 pub mod laws;
 pub mod top;
 

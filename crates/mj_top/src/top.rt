@@ -12,6 +12,7 @@ ghost use Rattle.mj_top.specs.Ends.{Answers, LeavesSink, HasCause, HasLaterCause
 
 use crate::batch::batch;
 use crate::bench::bench;
+use crate::checking::check_file;
 use mj_fan::{Gate, NoGate};
 use mj_gen::chain_model;
 use mj_io::{Cabinet, CabinetFault, Failed, NoMemory, Page, Sink, finish, send};
@@ -336,6 +337,7 @@ fn run_accepted<R: Threads + Sync, C: Cabinet, S: Sink, G: Gate>(
             bench_step_count(words),
         ),
         Command::Batch => batch(rt, alloc, words, cabinet, sink, gate),
+        Command::Check => check_file(alloc, words, cabinet, sink),
     }
 }
 
@@ -343,15 +345,17 @@ fn run_accepted<R: Threads + Sync, C: Cabinet, S: Sink, G: Gate>(
 /// `run` reads a model from the cabinet, runs it and writes the trace, and `inverse` does so with the forces of
 /// each step's rows one by one; `gen` writes a generated model;
 /// `bench` runs one with a generated tape and writes the summary; `batch` runs a model with each of
-/// several tapes by as many threads as the words let work, and writes their summaries. In a batch the
+/// several tapes by as many threads as the words let work, and writes their summaries; `check` judges a
+/// dump without a model, and writes one line of what it found. In a batch the
 /// gate is called ahead of each tape's run with the tape's number, in the thread that runs it.
 ///
 /// All that is promised is one record, `Promise` (specs/Headline). `headline`: where the cabinet tells and
-/// the words are accepted, an answer of `Done` or `OutOfRange` means that there are one model, which its
+/// the words are accepted, an answer of `Done`, `OutOfRange` or `Rejected` means of a run that there are one model, which its
 /// file's bytes are judged to be, and its tapes, that the sink gained the text of their run, and that in each
 /// step that has a block the forces are feasible, bound and box hold, radii and residual cover what
 /// rounding did, a ball holds each rational solution of the equation of motion, and each force by itself is
-/// within one unit of its row's optimum. `ends`: where all input is accepted the answer is such an end, unless a count of faults
+/// within one unit of its row's optimum; and of a check that the line is the verdict of the file's bytes, and that
+/// in each block of an accepted one the forces are feasible and bound and box hold. `ends`: where all input is accepted the answer is such an end, unless a count of faults
 /// rose or memory was wanted. `outcome`: the answer and what the sink gains are those of the outcome, but for
 /// `ReadFault`, `WriteFault` and `Memory`. `complete`: where no count rose, the answer is the outcome's, or
 /// `Memory`. `cause`: when each answer may come. `nothing`: after `ReadFault` and `Memory` the sink was not

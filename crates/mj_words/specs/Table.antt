@@ -17,7 +17,7 @@ abbrev pub command_named : List ℕ → Option Command
 command_named text =
     cond (bytes_eq text (codes "run")) (Some command.Run) (cond (bytes_eq text (codes "gen")) (Some command.Gen)
     (cond (bytes_eq text (codes "bench")) (Some command.Bench) (cond (bytes_eq text (codes "batch")) (Some command.Batch)
-    (cond (bytes_eq text (codes "inverse")) (Some command.Inverse) None))))
+    (cond (bytes_eq text (codes "inverse")) (Some command.Inverse) (cond (bytes_eq text (codes "check")) (Some command.Check) None)))))
 
 -- it is the inverse dynamics
 abbrev pub is_inverse : Command → Bool
@@ -99,12 +99,17 @@ inverse_rule name.Steps = required (form.Number 0 1000000)
 inverse_rule name.Tape = optional form.FileName
 inverse_rule other = foreign
 
+abbrev pub check_rule : Name → Rule
+check_rule name.Dual = required form.FileName
+check_rule other = foreign
+
 abbrev pub rule : Command → Name → Rule
 rule command.Run name = run_rule name
 rule command.Gen name = gen_rule name
 rule command.Bench name = bench_rule name
 rule command.Batch name = batch_rule name
 rule command.Inverse name = inverse_rule name
+rule command.Check name = check_rule name
 
 -- the rule for a text in a name's place
 abbrev pub rule_from : Command → Option Name → Rule

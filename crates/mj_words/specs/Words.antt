@@ -169,6 +169,10 @@ wants_ball words = bytes_eq (unwrap_or (given words (codes "--ball")) []) (codes
 abbrev pub wants_inverse : List (List ℕ) → Bool
 wants_inverse words = is_inverse (command_of words)
 
+-- the file of the dump that is checked
+abbrev pub dump_of : List (List ℕ) → List ℕ
+dump_of words = unwrap_or (given words (codes "--dual")) []
+
 -- of a generated model
 abbrev pub link_count : List (List ℕ) → ℕ
 link_count words = number_under words named.Links

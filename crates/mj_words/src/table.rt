@@ -15,6 +15,8 @@ pub enum Command {
     Batch,
     /// A model runs, and its steps are traced with the forces of their rows one by one.
     Inverse,
+    /// A dump is judged without a model.
+    Check,
 }
 
 /// A name, after which a value stands.
@@ -26,7 +28,7 @@ pub enum Name {
     Steps,
     /// The file of a tape.
     Tape,
-    /// Whether the trace shows each step's dual.
+    /// Whether the trace shows each step's dual; of `check` the file that does.
     Dual,
     /// Whether the trace shows a ball around each step's acceleration.
     Ball,
@@ -75,6 +77,8 @@ impl Command {
             Some(Command::Batch)
         } else if text == "inverse" {
             Some(Command::Inverse)
+        } else if text == "check" {
+            Some(Command::Check)
         } else {
             None
         }
@@ -100,6 +104,7 @@ impl Command {
             Command::Bench => bench_rule(name),
             Command::Batch => batch_rule(name),
             Command::Inverse => inverse_rule(name),
+            Command::Check => check_rule(name),
         }
     }
 
@@ -272,6 +277,15 @@ fn inverse_rule(name: Name) -> Rule
             most: 1_000_000,
         }),
         Name::Tape => optional(Form::FileName),
+        _ => foreign(),
+    }
+}
+
+fn check_rule(name: Name) -> Rule
+    ensures { result ≡ spec.check_rule name }
+{
+    match name {
+        Name::Dual => required(Form::FileName),
         _ => foreign(),
     }
 }

@@ -337,6 +337,13 @@ pub fn wants_inverse(words: &[String]) -> bool
     command_of(words).is_inverse()
 }
 
+/// The file of the dump that accepted words of `check` ask to judge.
+pub fn dump_of(words: &[String]) -> &str
+    ensures { result.now ≡ spec.dump_of (map string_bytes words.now) }
+{
+    given(words, "--dual").unwrap_or("")
+}
+
 /// How many links accepted words ask for.
 pub fn link_count(words: &[String]) -> u32
     ensures { result ≡ spec.link_count (map string_bytes words.now) }

@@ -91,3 +91,13 @@ run_files-requires-clause-run g c = inl (sym c.in-Run.ensures)
 
 pub run_files-in-Inverse-requires-clause-run : goal.run_files-in-Inverse-requires-clause-run
 run_files-in-Inverse-requires-clause-run g c = inr (sym c.in-Inverse.ensures)
+
+pub returns-in-Check-clause-outcome : goal.returns-in-Check-clause-outcome
+returns-in-Check-clause-outcome g c = λ told.
+    let P = λ (k : Command). IsTrue (reads_files k) → IsTrue (g.C.Cabinet.tells c.args.cabinet.now) in
+    let sure : IsTrue (reads_files command.Check) → IsTrue (g.C.Cabinet.tells c.args.cabinet.now) = subst P (sym c.in-Check.ensures) told in
+    c.check_file.ensures.outcome (sure refl)
+
+pub returns-in-Check-clause-unread : goal.returns-in-Check-clause-unread
+returns-in-Check-clause-unread g c = λ none.
+    let wrong : true ≡ false = ap reads_files c.in-Check.ensures ∙ none in absurd (let no : ⊥ = cc in no)
