@@ -1,0 +1,6 @@
+pub mod BallLaws
+pub mod SourceLaws
+pub mod BoundLaws
+pub mod RowLaws
+pub mod JudgingLaws
+pub mod NumberLaws
