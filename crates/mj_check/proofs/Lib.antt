@@ -1,3 +1,5 @@
+pub mod KeptLaws
+pub mod KindLaws
 pub mod BallLaws
 pub mod SourceLaws
 pub mod BoundLaws

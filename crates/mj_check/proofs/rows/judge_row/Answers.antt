@@ -1,15 +1,14 @@
-use Rattle.std.proofs.Common.{rules, ◌≡◌, ◌≤◌, ◌<◌, ◌+◌, ◌^◌, ℕ, IsTrue, IfOk, IfSome, length, true, option_map, ◌-◌, ◌*◌, ◌/◌, ◌%◌, Bool, false, nat_eq, nat_lt, List, [], ◌∷◌, ◌++◌, slice_index_or, slice_set, bit_and, bit_or, Fits, w8, w32, w64, Bor, MutBor}
-use Rattle.fx_list.specs.Held.{Held}
-use Rattle.mj_trace.specs.Block.{bound_text}
-use Rattle.mj_reading.specs.Reading.{Read, Is, Anything, NoNumber}
-use Rattle.mj_check.specs.Judging.{Line, found_as}
-use Rattle.mj_check.specs.Rows as spec
+use Rattle.std.proofs.Common.{refl, inl, inr}
+use Rattle.std.proofs.lemmas.Result.{err_from_is_err_and}
 use Rattle.mj_check.proofs.rows.judge_row.Goals as goal
 
--- src/rows.rt:205:1
-pub returns-then-is_row_within-clause-line : goal.returns-then-is_row_within-clause-line
-returns-then-is_row_within-clause-line c = ?
+pub returns-in_err-row-clause-line : goal.returns-in_err-row-clause-line
+returns-in_err-row-clause-line c =
+    let q = err_from_is_err_and c.from_residual.result c.from_residual.ensures.1 in
+    rw (q.1, q.2) (inr (_, c.in_err-row.ensures.line, refl))
 
--- src/rows.rt:205:1
+pub returns-then-is_row_within-clause-line : goal.returns-then-is_row_within-clause-line
+returns-then-is_row_within-clause-line c = inl ((c.in_ok-row.row, c.find_row.new.scan.rest), c.in_ok-row.ensures.line, inl (c.is_row_within.ensures.yes c.if-is_row_within.true, refl))
+
 pub returns-else-is_row_within-clause-line : goal.returns-else-is_row_within-clause-line
-returns-else-is_row_within-clause-line c = ?
+returns-else-is_row_within-clause-line c = inl ((c.in_ok-row.row, c.find_row.new.scan.rest), c.in_ok-row.ensures.line, inr ((λ h. let t = c.is_row_within.ensures.only h in absurd cc), refl))

@@ -1,51 +1,34 @@
-use Rattle.std.proofs.Common.{rules, ◌≡◌, ◌≤◌, ◌<◌, ◌+◌, ◌^◌, ℕ, IsTrue, IfOk, IfSome, length, true, option_map, ◌-◌, ◌*◌, ◌/◌, ◌%◌, Bool, false, nat_eq, nat_lt, List, [], ◌∷◌, ◌++◌, slice_index_or, slice_set, bit_and, bit_or, Fits, w8, w32, w64, Bor, MutBor}
-use Rattle.fx_list.specs.Held.{Held}
-use Rattle.mj_trace.specs.Block.{bound_text}
-use Rattle.mj_reading.specs.Reading.{Read, Is, Anything, NoNumber}
-use Rattle.mj_check.specs.Judging.{Line, found_as}
-use Rattle.mj_check.specs.Rows as spec
+use Rattle.std.proofs.Common.{◌≡◌, ◌+◌, ◌≤◌, ◌<◌, ◌∙◌, ℕ, List, [], length, true, Result, Ok, Err, refl, sym, ap, subst, inl, inr, arith}
+use Rattle.std.proofs.lemmas.Result.{err_from_is_err_and}
+use Rattle.std.proofs.lemmas.List.Elements.{All-nil}
+use Rattle.mj_check.specs.declared.rejection.Rejection.{Rejection}
+use Rattle.mj_check.specs.Rows.{IsNextRow, IsRowAt, IsKept, AreKept, AreRows, with_row}
+use Rattle.mj_check.proofs.JudgingLaws.{each-more, each-stops}
+use Rattle.mj_check.proofs.KeptLaws.{Keeps, keeps-more}
 use Rattle.mj_check.proofs.rows.judge_rows.Goals as goal
 
--- src/rows.rt:264:5
 pub loop-i-init : goal.loop-i-init
-loop-i-init c = ?
+loop-i-init c = rw c.clear.ensures (record {
+  going = c.requires.going;
+  most = refl;
+  keeps = record { few = omega arith; idle = omega arith; active = omega (arith, c.requires.counts.idle.1); each = All-nil (IsKept c.args.bounds c.args.counts.now.rows) };
+  lines = refl;
+})
 
--- src/rows.rt:265:19
 pub judge_row-requires-clause-going : goal.judge_row-requires-clause-going
-judge_row-requires-clause-going c = ?
+judge_row-requires-clause-going c = c.loop-i.invariant.going
 
--- src/rows.rt:265:19
 pub judge_row-requires-clause-small : goal.judge_row-requires-clause-small
-judge_row-requires-clause-small c = ?
+judge_row-requires-clause-small c = let a = c.loop-i.invariant.keeps.active in let r = c.requires.counts.rows.1 in let n = c.len.ensures.count in omega arith
 
--- src/rows.rt:265:19
 pub returns-in_err-row-clause-most : goal.returns-in_err-row-clause-most
-returns-in_err-row-clause-most c = ?
+returns-in_err-row-clause-most c = c.loop-i.invariant.most
 
--- src/rows.rt:265:19
 pub returns-in_err-row-clause-lines : goal.returns-in_err-row-clause-lines
-returns-in_err-row-clause-lines c = ?
-
--- src/rows.rt:266:9
-pub keep-requires : goal.keep-requires
-keep-requires c = ?
-
--- src/rows.rt:264:5
-pub loop-i-preserved : goal.loop-i-preserved
-loop-i-preserved c = ?
-
--- src/rows.rt:246:1
-pub returns-clause-going : goal.returns-clause-going
-returns-clause-going c = ?
-
--- src/rows.rt:246:1
-pub returns-clause-most : goal.returns-clause-most
-returns-clause-most c = ?
-
--- src/rows.rt:246:1
-pub returns-clause-kept : goal.returns-clause-kept
-returns-clause-kept c = ?
-
--- src/rows.rt:246:1
-pub returns-clause-lines : goal.returns-clause-lines
-returns-clause-lines c = ?
+returns-in_err-row-clause-lines c =
+    let q = err_from_is_err_and c.from_residual.result c.from_residual.ensures.1 in
+    let e = c.in_err-row.field-0.0 in
+    let line : IsRowAt c.args.bounds c.args.counts.now c.loop-i.i (length c.loop-i.rows.list) (c.args.line + c.loop-i.i) c.loop-i.scan.rest (Err e) = rw c.len.ensures.count at c.in_err-row.ensures.line in
+    let one = IsNextRow c.args.bounds c.args.counts.now c.args.line in
+    rw (q.1, q.2) (each-stops one c.args.counts.now.rows (c.loop-i.i + 1) ([], c.args.scan.now.rest) e (omega arith)
+    (each-more one c.loop-i.i ([], c.args.scan.now.rest) (c.loop-i.rows.list, c.loop-i.scan.rest) (Err e) c.loop-i.invariant.lines (inr (e, line, refl))))

@@ -1,10 +1,13 @@
-use Rattle.std.proofs.Common.{◌≡◌, ◌≤◌, ◌<◌, ◌+◌, ◌^◌, ℕ, IsTrue, IfOk, IfSome, length, true, option_map, ◌-◌, ◌*◌}
-use Rattle.fx_list.specs.Held.{Held}
-use Rattle.mj_trace.specs.Block.{bound_text}
-use Rattle.mj_reading.specs.Reading.{Read, Is, Anything, NoNumber}
-use Rattle.mj_check.specs.Judging.{Line, found_as}
-use Rattle.mj_check.specs.Rows as spec
+use Rattle.std.proofs.Common.{◌≡◌, true, [], Ok}
+use Rattle.mj_check.specs.Judging.{Each}
+use Rattle.mj_check.specs.Rows.{IsNextRow}
+use Rattle.mj_check.proofs.KeptLaws.{Keeps}
 use Rattle.mj_check.proofs.rows.judge_rows.Given as goal
 
 abbrev pub invariant-loop-i : goal.invariant-loop-i
-invariant-loop-i l = ?
+invariant-loop-i l = record {
+  going : l.scan.going ≡ true;
+  most : l.rows.most ≡ l.fn.rows.most;
+  keeps : Keeps l.bounds l.counts l.i l.rows.list;
+  lines : Each (IsNextRow l.bounds l.counts l.line) l.i ([], l.fn.scan.rest) (Ok (l.rows.list, l.scan.rest));
+}

@@ -1,22 +1,23 @@
-use Rattle.std.proofs.Common.{rules, ◌≡◌, ℕ, IsTrue, ◌+◌, ◌-◌, ◌*◌, ◌<◌, ◌≤◌, length, ◌/◌, ◌%◌, Bool, true, false, nat_eq, nat_lt, List, [], ◌∷◌, ◌++◌, slice_index_or, slice_set, bit_and, bit_or, Fits, w8, w32, w64, Bor, MutBor}
+use Rattle.std.proofs.Common.{◌≡◌, ◌∙◌, ◌<◌, ℕ, Bool, length, find, drop, refl, sym, ap, subst, arith}
 use Rattle.std.specs.Str.{bytes_eq}
+use Rattle.mj_types.specs.declared.range.Quantity.{Quantity}
+use Rattle.mj_types.specs.declared.range.Quantity.TheVariants as kind
 use Rattle.mj_types.specs.Ranges.{quantity_name}
-use Rattle.mj_reading.specs.Reading.{Read, Is, IsToken, NoLetter, NoNumber}
-use Rattle.mj_check.specs.Sources as spec
+use Rattle.mj_check.specs.Sources.{all_kinds}
+use Rattle.mj_check.proofs.KindLaws.{found-at, found-past}
 use Rattle.mj_check.proofs.sources.kind_named.Goals as goal
 
--- src/sources.rt:187:5
 pub loop-kind-init : goal.loop-kind-init
-loop-kind-init c = ?
+loop-kind-init c = refl
 
--- src/sources.rt:189:13
 pub returns-then-is_named : goal.returns-then-is_named
-returns-then-is_named c = ?
+returns-then-is_named c =
+    let p : Quantity → Bool = λ k. bytes_eq c.args.text.now (quantity_name k) in
+    let n : length c.kinds-kind-items.result ≡ 34 = ap length c.kinds-kind-items.ensures in
+    sym (found-at p kind.QuatNorm c.kinds-kind-items.result c.loop-kind.kind-index (omega arith) c.if-is_named.ensures) ∙ sym c.loop-kind.invariant ∙ ap (find p) c.kinds-kind-items.ensures
 
--- src/sources.rt:187:5
 pub loop-kind-preserved : goal.loop-kind-preserved
-loop-kind-preserved c = ?
-
--- src/sources.rt:184:1
-pub returns : goal.returns
-returns c = ?
+loop-kind-preserved c =
+    let p : Quantity → Bool = λ k. bytes_eq c.args.text.now (quantity_name k) in
+    let n : length c.kinds-kind-items.result ≡ 34 = ap length c.kinds-kind-items.ensures in
+    c.loop-kind.invariant ∙ found-past p kind.QuatNorm c.kinds-kind-items.result c.loop-kind.kind-index (omega arith) c.if-is_named.ensures
