@@ -1,3 +1,5 @@
+pub mod TokenLaws
+pub mod EndLaws
 pub mod KeptLaws
 pub mod KindLaws
 pub mod BallLaws
