@@ -9,12 +9,13 @@ use Rattle.mj_reading.specs.Reading.{Any, IsBetween}
 use Rattle.mj_check.specs.Lines.{IsEnd}
 use Rattle.mj_check.specs.Sources.{IsKind}
 
+pub done-text : end_text finish.Done ≡ codes "end done\n"
 unfolding end_text
-  pub done-text : end_text finish.Done ≡ codes "end done\n"
-  done-text = refl
+done-text = refl
 
-  pub early-text : (step : ℕ) (kind : Quantity) (index : ℕ) → end_text (finish.OutOfRange step kind index) ≡ ((((codes "end out-of-range step=" ++ decimal step) ++ codes " kind=") ++ quantity_name kind) ++ (codes " index=" ++ decimal index)) ++ codes "\n"
-  early-text step kind index = refl
+pub early-text : (step : ℕ) (kind : Quantity) (index : ℕ) → end_text (finish.OutOfRange step kind index) ≡ ((((codes "end out-of-range step=" ++ decimal step) ++ codes " kind=") ++ quantity_name kind) ++ (codes " index=" ++ decimal index)) ++ codes "\n"
+unfolding end_text
+early-text step kind index = refl
 
 -- all steps were done, where there are as many blocks
 pub done-only : (count steps : ℕ) → steps ≤ count → (w : End) → IsEnd count steps w → w ≡ finish.Done
@@ -37,7 +38,7 @@ IsEarly a = (((Any a.0.0.0.0 × Any a.0.0.0.1) × IsKind a.0.0.1) × (Any a.0.1.
 
 pub early-only : (count steps : ℕ) → count < steps → (w : End) → IsEnd count steps w → (a : Early) × IsEarly a × (w ≡ end_early count a)
 early-only count steps l finish.Done h = absurd (omega (arith, h))
-early-only count steps l (finish.OutOfRange step kind index) h = (((((tt, tt), kind), (tt, index)), tt), ((((tt, tt), h.2.0), (tt, h.2.1)), tt), ap (λ (s : ℕ). finish.OutOfRange s kind index) h.0)
+early-only count steps l (finish.OutOfRange step kind index) h = (((((tt, tt), kind), (tt, index)), tt), ((((tt, tt), h.2), (tt, h.3)), tt), ap (λ (s : ℕ). finish.OutOfRange s kind index) h.0)
 
 pub is-early : (count steps : ℕ) → count < steps → (a : Early) → IsEarly a → IsEnd count steps (end_early count a)
 is-early count steps l a h = (refl, omega arith, h.0.0.1, h.0.1.1)

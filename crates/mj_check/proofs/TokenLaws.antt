@@ -14,7 +14,7 @@ module _ (text : List ℕ) where
   named-so [] = tt
   named-so (k ∷ ks) = by_bool (bytes_eq text (quantity_name k)) (λ t. rw t ((bytes_eq-Decides text (quantity_name k)).0 t)) (λ f. rw f (named-so ks))
 
-  AreKinds : List Quantity → Type 0
+  abbrev AreKinds : List Quantity → Type 0
   AreKinds [] = Unit {0}
   AreKinds (k ∷ ks) = IsKind k × AreKinds ks
 
@@ -103,7 +103,7 @@ kind-letters kind.InverseLoad h = absurd h
 kind-token : (text : List ℕ) → IsToken IsKind quantity_name text (kind_named text)
 kind-token text = record {
   is = named-so text all_kinds;
-  good = named-kind text all_kinds (tt, tt, tt, tt, tt, tt, tt, tt, tt, tt, tt, tt, tt, tt, tt, tt, tt, tt, tt, tt, tt, tt, tt, tt, tt, tt, tt, tt, tt, tt, tt, tt, tt, tt, tt);
+  good = named-kind text all_kinds (tt, (tt, (tt, (tt, (tt, (tt, (tt, (tt, (tt, (tt, (tt, (tt, (tt, (tt, (tt, (tt, (tt, (tt, (tt, (tt, (tt, (tt, (tt, (tt, (tt, (tt, (tt, (tt, (tt, (tt, (tt, (tt, (tt, (tt, tt))))))))))))))))))))))))))))))))));
   only = λ w h e. subst (λ t. kind_named t ≡ Some w) (sym e) (named-only w h);
 }
 
