@@ -1,3 +1,4 @@
+pub mod TextLaws
 pub mod TokenLaws
 pub mod EndLaws
 pub mod KeptLaws
