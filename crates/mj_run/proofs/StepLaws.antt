@@ -63,7 +63,7 @@ module _ (m : Model) (s : State) (u : List Control) (r : Runner) (has : HasStepp
   pub can-separate : CanSeparate r.work.rows r.work.dual r.work.smooth.items r.work.report.accel
   can-separate = record {
     listed = let P = λ (n : ℕ). AreListed n r.work.rows r.work.dual in subst P (sym accel-length) (record {
-      few = m.of_dofs.few;
+      few = m.of_joints.few;
       some_place = has.can_push.some_place;
       place_there = has.can_push.place_there;
       small = has.can_push.small;

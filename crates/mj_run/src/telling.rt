@@ -1,5 +1,5 @@
 // A step of a run, and what is told of it.
-ghost use Rattle.std.specs.Prelude.{◌≡◌, ◌×◌, ◌+◌, ◌-◌, ◌<◌, ◌≤◌, ◌^◌, List, None, IsTrue, IfOk, IfErr, length};
+ghost use Rattle.std.specs.Prelude.{◌≡◌, ◌+◌, ◌-◌, ◌<◌, ◌≤◌, ◌^◌, List, None, IsTrue, IfOk, IfErr, length};
 ghost use Rattle.fx_whole.specs.First.{refusal_of};
 ghost use Rattle.mj_inverse.specs.Separated.{inverse_fault};
 ghost use Rattle.mj_io.specs.Sent.{Sent};
