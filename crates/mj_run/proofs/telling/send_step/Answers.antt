@@ -1,4 +1,4 @@
-use Rattle.std.proofs.Common.{◌≡◌, ◌<◌, ◌≤◌, ◌++◌, ◌+◌, IsTrue, refl, sym, ap, ap₂, ◌∙◌}
+use Rattle.std.proofs.Common.{◌++◌, ◌+◌, IsTrue, refl, sym, ap₂, ◌∙◌}
 use Rattle.mj_io.proofs.Sent.{sent-then}
 use Rattle.mj_types.specs.StepValues.{dual_values}
 use Rattle.mj_step.specs.Steps.{ball_at}
