@@ -1,14 +1,16 @@
 #!/usr/bin/env python3
 """Generated models, tapes and words, for as long as is asked; every answer is looked at.
 
-usage: soak.py [--minutes N] [--seed N] [--mj FILE] [--other FILE]
+usage: soak.py [--minutes N] [--seed N] [--mj FILE] [--other FILE]      (60 minutes, seed 1; a minute for a first look)
 
-N is 60 minutes and the seed 1 where none are given, the programs are crates/mj/out/mj and mj.by-rattle beside it.
+The programs are crates/mj/out/mj and mj.by-rattle beside it, which rt ci leaves, where none are named.
 A case is a model by chance (models.py; a third of them damaged, some of `mj gen`) with its tapes, or words by chance.
 Of each call it is asked:
-- the status is one of the table, and the output goes with it; no signal, nothing on standard error, an end in time;
+- the status is one of the table, and the output goes with it; no signal, nothing on standard error,
+  no new file, an end in time;
 - the other build gives the same bytes and the same status;
-- `run --dual yes` and `--ball yes` add lines, and `inverse` its own, and change none of the others;
+- `run --dual yes` and `--ball yes` add lines, and `inverse` its own, and change none of the others, nor the status, but
+  for a number out of range of the inverse dynamics;
 - a batch of one to four tapes gives the summaries of the single runs' traces, with any number of workers;
 - `check` accepts each dump, counts its blocks, and gives of a damaged one the verdict that verdict.py gives.
 What the program has no word for (check, inverse, --ball) is left out, and said. A case that fails is kept in a folder,
@@ -25,8 +27,9 @@ import sys
 import tempfile
 import time
 
-import models
-import verdict
+sys.dont_write_bytecode = True
+import models  # noqa: E402
+import verdict  # noqa: E402
 
 TOP = os.path.join(os.path.dirname(os.path.abspath(__file__)), "..", "..")
 IN_TIME = 600
@@ -70,7 +73,10 @@ class Soak:
 
     def call(self, *words):
         """The status and the output of both builds."""
+        files = os.listdir(self.folder)
         first, *others = [self.raw(program, words) for program in self.programs]
+        if os.listdir(self.folder) != files:
+            raise Failed(f"a file is there that wasn't: {words}")
         self.count["calls"] += 1
         if any((run.returncode, run.stdout) != (first.returncode, first.stdout) for run in others):
             raise Failed(f"the builds differ: {words}")
@@ -114,21 +120,22 @@ class Soak:
         status, plain = self.call("run", *words)
         if status not in (0, 3):
             return
-        self.compare_dual(chance, words, plain)
+        self.compare_dual(chance, words, status, plain)
         if self.knows["ball"]:
-            self.same(plain, self.call("run", *words, "--ball", "yes")[1], "--ball yes")
+            self.same(status, plain, self.call("run", *words, "--ball", "yes"), "--ball yes")
         if self.knows["inverse"]:
-            self.compare_inverse(words, plain)
+            self.compare_inverse(words, status, plain)
         if tape:
             self.compare_batch(chance, steps, plain)
 
-    def same(self, plain, other, what):
-        if EXTRA.sub(b"", other) != plain:
-            raise Failed(f"{what} changes other lines")
+    def same(self, status, plain, other, what):
+        if (status, plain) != (other[0], EXTRA.sub(b"", other[1])):
+            raise Failed(f"{what} changes other lines or the status")
 
-    def compare_dual(self, chance, words, plain):
-        _, dump = self.call("run", *words, "--dual", "yes")
-        self.same(plain, dump, "--dual yes")
+    def compare_dual(self, chance, words, status, plain):
+        answer = self.call("run", *words, "--dual", "yes")
+        self.same(status, plain, answer, "--dual yes")
+        dump = answer[1]
         if not self.knows["check"]:
             return
         if self.knows["ball"] and chance.random() < 0.5:
@@ -146,13 +153,14 @@ class Soak:
                 raise Failed(f"check of a damaged dump: {found.strip()}, and by verdict.py {wanted.strip()}")
             self.count["damaged dumps"] += 1
 
-    def compare_inverse(self, words, plain):
-        status, out = self.call("inverse", *words)
-        common = EXTRA.sub(b"", out)
+    def compare_inverse(self, words, status, plain):
+        answer = self.call("inverse", *words)
+        common = EXTRA.sub(b"", answer[1])
         if common == plain:
+            self.same(status, plain, answer, "inverse")
             return
         found = EARLY.search(common)
-        if status != 3 or not found or not found[1].startswith(b"Inverse"):
+        if answer[0] != 3 or not found or not found[1].startswith(b"Inverse"):
             raise Failed("inverse changes other lines")
         if not plain.startswith(common[: found.start()]):
             raise Failed("inverse changes lines before its end")
@@ -208,10 +216,13 @@ def summary(trace):
 
 
 def parsed():
-    parser = argparse.ArgumentParser(description=__doc__.split("\n")[0])
-    parser.add_argument("--minutes", type=float, default=60)
-    parser.add_argument("--seed", type=int, default=1)
-    parser.add_argument("--mj", default=os.path.join(TOP, "crates", "mj", "out", "mj"))
+    head, _, rest = __doc__.partition("\n\nusage: ")
+    parser = argparse.ArgumentParser(
+        description=head + rest[rest.index("\n") :], formatter_class=argparse.RawDescriptionHelpFormatter
+    )
+    parser.add_argument("--minutes", type=float, default=60, help="how long, 60 where it isn't given")
+    parser.add_argument("--seed", type=int, default=1, help="of all chance, 1 where it isn't given")
+    parser.add_argument("--mj", default=os.path.join(TOP, "crates", "mj", "out", "mj"), help="the program")
     parser.add_argument("--other", help="the other build; without it mj.by-rattle beside the first, if it is there")
     return parser.parse_args()
 

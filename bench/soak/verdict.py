@@ -223,7 +223,7 @@ def main(paths):
 
 
 if __name__ == "__main__":
-    if len(sys.argv) < 2:
-        print(__doc__.split("\n\n")[1], file=sys.stderr)
-        sys.exit(2)
+    if sys.argv[1:2] in ([], ["-h"], ["--help"]):
+        print(__doc__, file=sys.stdout if sys.argv[1:] else sys.stderr)
+        sys.exit(0 if sys.argv[1:] else 2)
     main(sys.argv[1:])

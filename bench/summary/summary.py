@@ -265,4 +265,5 @@ def main(links, seed, steps):
     print("v", *(decimal(x, 9) for x in v))
 
 
-main(*map(int, sys.argv[1:]))
+if __name__ == "__main__":
+    main(*map(int, sys.argv[1:]))

@@ -273,12 +273,12 @@ pub optional-bytes : (x : Option (Wide 0)) → IsOptional x → AreBytes (option
 optional-bytes None h = refl
 optional-bytes (Some x) h = raw-bytes x h
 
-optional-mark : (w : Option (Wide 0)) → IsOptional w → 45 ∷ [] ≡ optional_text w → Some {A = Option (Wide 0)} None ≡ Some w
+optional-mark : (w : Option (Wide 0)) → IsOptional w → 45 ∷ [] ≡ optional_text w → None ≡ w
 optional-mark None h e = refl
 optional-mark (Some x) h e = absurd (mark-alone x.raw h (sym e))
 
 pub mark-token : (text : List ℕ) → text ≡ 45 ∷ [] → IsToken IsOptional optional_text text (Some None)
-mark-token text e = record { is = e; good = tt; only = λ w i t. optional-mark w i (sym e ∙ t) }
+mark-token text e = record { is = e; good = tt; only = λ w i t. ap Some (optional-mark w i (sym e ∙ t)) }
 
 pub number-token : (text : List ℕ) (x : Wide 0) → IsToken IsRaw raw_text text (Some x) → (text ≡ 45 ∷ [] → ⊥) → IsToken IsOptional optional_text text (Some (Some x))
 number-token text x h n = record { is = h.is; good = h.good; only = only }

@@ -2,7 +2,7 @@
 use Rattle.std.specs.Fmt.{signed_decimal}
 use Rattle.fx_num.specs.declared.number.Wide.{Wide}
 use Rattle.fx_text.specs.Raw.{IsWide}
-use Rattle.std.specs.Prelude.{◌≡◌, ℕ, suc, ◌≤◌, Bool, true, false, ◌&&◌, ◌||◌, ◌==◌, nat_le, cond, List, [], ◌∷◌, ◌++◌, Option, Some, IfSome}
+use Rattle.std.specs.Prelude.{◌≡◌, ℕ, suc, ◌≤◌, Bool, true, false, ◌&&◌, ◌||◌, ◌==◌, nat_le, cond, List, [], ◌∷◌, ◌++◌, Option, None, Some, IfSome, codes}
 
 -- what is still to be read, and whether all so far was in form
 pub record Ahead : Type 0 where

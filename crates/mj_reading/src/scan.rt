@@ -136,7 +136,7 @@ fn is_mark(text: &[u8]) -> bool
     ensures yes { IsTrue result → text.now ≡ 45 ∷ [] }
     ensures only { text.now ≡ 45 ∷ [] → IsTrue result }
 {
-    text == b"-"
+    text == b"-".as_slice()
 }
 
 // The number that a text was printed from.

@@ -1,6 +1,5 @@
 -- What a step that was done holds is what its inverse dynamics are taken of, and what they make is what is told.
 use Rattle.std.proofs.Common.{◌≡◌, ℕ, ◌-◌, ◌*◌, ◌^◌, ◌<◌, ◌≤◌, ℤ, pos, unsigned_abs, List, ◌++◌, length, Bool, true, false, IsTrue, None, refl, sym, ap, ap₂, ◌∙◌, subst, arith, codes, decimal}
-use Rattle.fx_whole.specs.Joined.{joined}
 use Rattle.fx_whole.proofs.EntryLaws.{below-within}
 use Rattle.fx_whole.proofs.JoinedLaws.{joined-ext}
 use Rattle.mj_types.specs.declared.carriers.Mass.{Mass}
@@ -35,7 +34,7 @@ use Rattle.mj_step.proofs.PushLaws.{rows-count, place-is, jacobian-is}
 use Rattle.mj_trace.specs.Block.{two_text, block_text}
 use Rattle.mj_trace.specs.Lines.{spaced}
 use Rattle.mj_trace.specs.Reports.{HasForces}
-use Rattle.mj_trace.specs.Wanted.{InverseValues, inverse_values, row_force_text, inverse_text}
+use Rattle.mj_trace.specs.Wanted.{inverse_values, row_force_text, inverse_text}
 use Rattle.mj_run.specs.declared.run.Runner.{Runner}
 use Rattle.mj_run.specs.Stepped.{HasStepped, HasInverse}
 use Rattle.mj_run.specs.Told.{AreBest, asked, row_at, given_at, inverse_at, inverse_lines}
@@ -63,7 +62,7 @@ module _ (m : Model) (s : State) (u : List Control) (r : Runner) (has : HasStepp
   pub can-separate : CanSeparate r.work.rows r.work.dual r.work.smooth.items r.work.report.accel
   can-separate = record {
     listed = let P = λ (n : ℕ). AreListed n r.work.rows r.work.dual in subst P (sym accel-length) (record {
-      few = m.of_dofs.few;
+      few = m.of_joints.few;
       some_place = has.can_push.some_place;
       place_there = has.can_push.place_there;
       small = has.can_push.small;

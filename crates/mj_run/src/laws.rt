@@ -13,8 +13,7 @@ pub fn told_steps_are_done()
     ensures { (wants : Wants) (m : Model) (controls : ℕ → List Control) (n k : ℕ)
         → k < courses.done_of (spec.course wants m controls) n
         → spec.refusal_at m controls k ≡ None }
-{
-}
+{}
 
 /// Where the inverse dynamics aren't asked for, a run ends as it does without anything asked for, after
 /// as many steps.
@@ -25,11 +24,9 @@ pub fn told_runs_end_alike()
     ensures end { (wants : Wants) (m : Model) (controls : ℕ → List Control) (n : ℕ)
         → wants.inverse ≡ false
         → courses.end_of (spec.course wants m controls) n ≡ spec.end_of m controls n }
-{
-}
+{}
 
 /// Each force of a row by itself that a run tells is within one unit of the row's rational optimum.
 pub fn told_forces_are_best()
     ensures { (m : Model) (s : State) (u : List Control) → AreBest m s u }
-{
-}
+{}

@@ -80,10 +80,12 @@ impl Runner {
         ensures start { IfOk result (λ r. r.state ≡ start model.now) }
         ensures inverse { IfOk result (λ r. length r.inverse.x ≡ model.now.njmax) }
     {
+        let state = State::new(alloc, model)?;
+        let inverse = Inverse::new(alloc, model)?;
         Ok(Runner {
             work: Work::new(alloc, model)?,
-            state: State::new(alloc, model)?,
-            inverse: Inverse::new(alloc, model)?,
+            state,
+            inverse,
         })
     }
 }

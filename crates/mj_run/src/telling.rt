@@ -1,5 +1,5 @@
 // A step of a run, and what is told of it.
-ghost use Rattle.std.specs.Prelude.{◌≡◌, ◌×◌, ◌+◌, ◌-◌, ◌<◌, ◌≤◌, ◌^◌, List, None, IsTrue, IfOk, IfErr, length};
+ghost use Rattle.std.specs.Prelude.{◌≡◌, ◌+◌, ◌-◌, ◌<◌, ◌≤◌, ◌^◌, List, None, IsTrue, IfOk, IfErr, length};
 ghost use Rattle.fx_whole.specs.First.{refusal_of};
 ghost use Rattle.mj_inverse.specs.Separated.{inverse_fault};
 ghost use Rattle.mj_io.specs.Sent.{Sent};
@@ -24,11 +24,7 @@ use mj_trace::{send_ball, send_block, send_inverse};
 use mj_types::{Model, OutOfRange, Wants};
 
 // The step under these controls.
-fn take_step(
-    model: &Model,
-    runner: &mut Runner,
-    controls: &[Fix<32>],
-) -> Result<(), OutOfRange>
+fn take_step(model: &Model, runner: &mut Runner, controls: &[Fix<32>]) -> Result<(), OutOfRange>
     requires made { MadeFor model.now runner.old.work }
     requires fits { Fits model.now runner.old.state }
     requires room { length runner.old.inverse.x ≡ model.now.njmax }

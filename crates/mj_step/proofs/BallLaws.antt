@@ -1,5 +1,5 @@
 -- The ball of a step: its mass matrix is symmetric, and what is stored of it below n counts alone.
-use Rattle.std.proofs.Common.{◌≡◌, ℕ, ◌^◌, ◌<◌, ◌≤◌, ℤ, unsigned_abs, List, refl, sym, ap, ap₂, ◌∙◌}
+use Rattle.std.proofs.Common.{◌≡◌, ℕ, ◌^◌, ◌<◌, ◌≤◌, ℤ, unsigned_abs, List, refl, sym, ap₂, ◌∙◌}
 use Rattle.mj_ball.specs.Shifts.{ball_of}
 use Rattle.mj_ball.proofs.SameLaws.{ball-reads}
 use Rattle.mj_ball.proofs.ShiftLaws.{ball_if_some}

@@ -1,4 +1,5 @@
-"""A picture of a run: positions, velocities, forces with their boxes, gap and cost, rows and sweeps."""
+"""A picture of a run: positions, velocities, forces with their boxes, gap and cost, rows and sweeps; balls and separated
+forces where the run told them."""
 
 from pathlib import Path
 
@@ -43,11 +44,12 @@ def plot(trace, path, model=None):
 
 
 def _figure(trace, model):
-    """The figure: where no step had a row, accelerations stand in place of forces, cost and solver."""
+    """The figure: where no step had a row, accelerations stand in place of forces, cost and solver. A panel more shows
+    the radii of balls and the gaps of separated forces, where the trace tells them."""
     has_rows = bool(trace.rows.any())
-    figure, axes = pyplot.subplots(
-        5 if has_rows else 3, 1, figsize=(9, 11 if has_rows else 7), sharex=True, layout="constrained"
-    )
+    has_errors = len(trace) > 0 and (trace.tells("ball") or trace.tells("inverse"))
+    count = (5 if has_rows else 3) + has_errors
+    figure, axes = pyplot.subplots(count, 1, figsize=(9, 1 + 2 * count), sharex=True, layout="constrained")
     time = trace.steps * (model.timestep if model else 1)
     seen = _seen(len(trace))
     velocities = _names(model, "velocity", trace.nv)
@@ -60,6 +62,8 @@ def _figure(trace, model):
         _draw_solver(axes[4], trace, time, seen)
     else:
         _draw_states(axes[2], time[seen], trace.a[seen], velocities, "acceleration [m/s², rad/s²]")
+    if has_errors:
+        _draw_errors(axes[-1], trace, time, seen)
     axes[-1].set_xlabel("time [s]" if model else "step")
     figure.suptitle(_title(trace, seen), fontsize=10)
     return figure
@@ -119,28 +123,30 @@ def _draw_limits(axis, trace, model):
 
 
 def _draw_forces(axis, trace, time, model):
-    """The rows with the greatest forces over time, each with its box as a band."""
+    """The rows with the greatest forces over time, each with its box as a band, and its separated force dotted."""
     rows = trace.row_lines[~trace.row_lines["idle"]]
+    separated = trace.separated if trace.tells("inverse") else np.full(len(rows), np.nan)
     keys = rows["kind"].astype(np.int64) << 48 | rows["id"].astype(np.int64) << 8 | rows["edge"]
     kinds, places = np.unique(keys, return_inverse=True)
     greatest = np.zeros(len(kinds))
     np.maximum.at(greatest, places, np.abs(rows["force"]))
     drawn = np.argsort(-greatest, kind="stable")[:MOST_LINES]
     for place in drawn:
-        _draw_row(axis, rows[places == place], time, model)
+        _draw_row(axis, rows[places == place], separated[places == place], time, model)
     if len(kinds) > len(drawn):
         axis.plot([], [], " ", label=f"and {len(kinds) - len(drawn)} smaller")
     _finish(axis, "force and box [N, N m]")
 
 
-def _draw_row(axis, rows, time, model):
+def _draw_row(axis, rows, separated, time, model):
     """One row's force; where the row doesn't stand the line is broken."""
-    filled = np.full((len(time), 3), np.nan)
-    for place, name in enumerate(("force", "lo", "hi")):
-        filled[rows["step"] - 1, place] = rows[name]
+    filled = np.full((len(time), 4), np.nan)
+    for place, values in enumerate((rows["force"], rows["lo"], rows["hi"], separated)):
+        filled[rows["step"] - 1, place] = values
     seen = _seen(len(time)) if len(rows) > MOST_POINTS else np.arange(len(time))
     line = axis.plot(time[seen], filled[seen, 0], label=_row_name(rows[0], model))[0]
     axis.fill_between(time[seen], filled[seen, 1], filled[seen, 2], color=line.get_color(), alpha=0.25, linewidth=0)
+    axis.plot(time[seen], filled[seen, 3], ":", color=line.get_color(), linewidth=1.0)
 
 
 def _row_name(row, model):
@@ -170,6 +176,24 @@ def _draw_solver(axis, trace, time, seen):
     late = seen[trace.at_limit[seen]]
     axis.plot(time[late], trace.sweeps[late], ".", markersize=3, label="sweeps ran out", color=COLOURS[4])
     _finish(axis, "rows, sweeps")
+
+
+def _draw_errors(axis, trace, time, seen):
+    """The radii of the balls, or the gaps and discrepancies of the separated forces, on a logarithmic scale."""
+    if trace.tells("ball"):
+        lines = [(trace.ball_radius, "radius of the ball")]
+        label = "a at most off by [m/s², rad/s²]"
+    else:
+        lines = [(trace.inverse_gap, "gap"), (trace.discrepancy, "discrepancy")]
+        label = "separated forces [N, N m]"
+    for values, name in lines:
+        zeros, missing = int((values == 0).sum()), int(np.isnan(values).sum())
+        name += f", 0 in {zeros} steps" * bool(zeros) + f", none in {missing}" * bool(missing)
+        shown = np.where(values[seen] > 0, values[seen], np.nan)
+        axis.plot(time[seen], shown, ".-", markersize=3, label=name)
+        if np.isfinite(shown).any():
+            axis.set_yscale("log")
+    _finish(axis, label)
 
 
 def _finish(axis, label):

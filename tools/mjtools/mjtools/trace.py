@@ -338,7 +338,6 @@ class _Reading:
                 raise TraceError(f"{self.path}: the lines rows tell other numbers of rows than stand there")
             parts["row"]["step"] = np.repeat(trace.steps, parts["rows"][:, 0])
 
-
     def _count_separated(self, parts):
         """Refuses lines x that aren't one for each row that isn't idle, in order."""
         if "x" not in parts:
@@ -368,6 +367,8 @@ def _not_a_trace(line):
     """What a file that begins with this line is, where it is no trace."""
     if line.startswith(b"refused "):
         return f"no trace but a refusal: {line.decode(errors='replace')[:200]} (mjtools explain tells what to do)"
+    if line.startswith((b"accepted ", b"rejected ")):
+        return f"no trace but the verdict of mj check: {line.decode(errors='replace')[:200]} (see mjtools explain)"
     if line.startswith((b"job ", b"steps ")):
         return "no trace but a summary, as batch and bench write it"
     return "no trace of mj: its first line isn't like 'trace 1 nq=1 nv=1 steps=3'"

@@ -9,10 +9,10 @@ from math import cos, pi, sin
 import mjtools
 import numpy as np
 import pytest
-from conftest import BALL, SLIDE, SLIDE_MODEL
+from conftest import BALL, BALLS, INVERSE, SLIDE, SLIDE_MODEL
 from mjtools.animation import Camera, animate
 from mjtools.gltf import _capsule, _continuous, _from_z, write_gltf
-from mjtools.plots import plot
+from mjtools.plots import _figure, plot
 from mjtools.quaternions import rotated
 from mjtools.shapes import frames, in_world, shapes
 from PIL import Image
@@ -62,6 +62,33 @@ def test_plots_are_pictures(kept, tmp_path):
         assert picture.format == "PNG" and picture.width > 800 and len(picture.convert("L").getcolors()) > 10
     plot(trace, tmp_path / "ball.svg")
     assert "<svg" in (tmp_path / "ball.svg").read_text()
+
+
+def axes_of(kept, text):
+    """The panels of a trace's picture."""
+    return _figure(mjtools.read(kept("t.trace", text)), None).axes
+
+
+def test_plots_of_balls_have_a_panel_more(kept, tmp_path):
+    plot(mjtools.read(kept("t.trace", BALLS)), tmp_path / "balls.png")
+    assert Image.open(tmp_path / "balls.png").format == "PNG"
+    assert len(axes_of(kept, SLIDE)) == 3
+    *_, last = panels = axes_of(kept, BALLS)
+    (line,) = last.get_lines()
+    assert len(panels) == 4 and line.get_label() == "radius of the ball, 0 in 1 steps, none in 1"
+    values = line.get_ydata()
+    assert np.isnan(values[:2]).all() and values[2] == 2.0
+    exact = BALLS.replace("ball none", "ball 39 549755813888 0").replace(" 8589934592\nend", " 0\nend")
+    assert axes_of(kept, exact)[-1].get_lines()[0].get_label() == "radius of the ball, 0 in 3 steps"
+
+
+def test_plots_of_separated_forces(kept):
+    panels = axes_of(kept, INVERSE)
+    assert len(panels) == 6
+    assert [line.get_label() for line in panels[-1].get_lines()] == ["gap", "discrepancy"]
+    assert [line.get_ydata().tolist() for line in panels[-1].get_lines()] == [[1.0], [1.0]]
+    dotted = [line.get_ydata().tolist() for line in panels[2].get_lines() if line.get_linestyle() == ":"]
+    assert dotted == [[5.0], [2.0]], "the separated forces of the equality and of the friction"
 
 
 def test_plots_of_no_steps(kept, tmp_path):

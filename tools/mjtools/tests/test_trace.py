@@ -233,6 +233,8 @@ def test_a_damaged_row_is_told(kept, row):
         ("[option]\ntimestep = 1\n", "no trace of mj"),
         ("refused model FloatValue option.timestep\n", "refusal: refused model FloatValue option.timestep"),
         ("job 1\nsteps 3 of 3\n", "summary"),
+        ("rejected 9 Box\n", "verdict of mj check: rejected 9 Box"),
+        ("accepted 3\n", "verdict"),
         ("trace 3 nq=1 nv=1 steps=0\nend done\n", "format 3"),
         ("trace 1 nq=999 nv=1 steps=0\nend done\n", "counts"),
         (SLIDE + "step 4\n", "'end' begins no line"),

@@ -1,4 +1,4 @@
-use Rattle.std.proofs.Common.{◌≡◌, ◌+◌, ◌++◌, List, None, length, refl, sym, subst, ap, ◌∙◌, arith}
+use Rattle.std.proofs.Common.{◌≡◌, ◌+◌, ◌++◌, List, length, refl, sym, subst, ap, ◌∙◌, arith}
 use Rattle.fx_whole.proofs.JoinedLaws.{joined-none}
 use Rattle.mj_io.proofs.Sent.{sent-then, sent-nothing, sent-past}
 use Rattle.mj_passive.specs.Forces.{AreControls}

@@ -1,7 +1,8 @@
-use Rattle.std.proofs.Common.{◌≡◌, ◌<◌, ◌≤◌, ◌++◌, ◌+◌, refl, sym, ap, ap₂, ◌∙◌}
+use Rattle.std.proofs.Common.{◌++◌, ◌+◌, IsTrue, refl, sym, ap₂, ◌∙◌}
 use Rattle.mj_io.proofs.Sent.{sent-then}
 use Rattle.mj_types.specs.StepValues.{dual_values}
 use Rattle.mj_step.specs.Steps.{ball_at}
+use Rattle.mj_run.specs.Stepped.{HasInverse}
 use Rattle.mj_run.specs.Told.{ball_lines}
 use Rattle.mj_run.proofs.StepLaws.{trace-forces, inverse-room, block-told, lines-told}
 use Rattle.mj_run.proofs.telling.send_step.Goals as goal
@@ -51,7 +52,7 @@ returns-clause-sent g c =
     let has = c.in_ok-step_once.ensures.stepped in
     let still = c.send_asked_ball.ensures.stepped s u has in
     let block = block-told m s u first has w (c.args.done + 1) in
-    let inverse = λ wanted. rw c.send_asked_ball.ensures.inverse (c.in_ok-step_once.ensures.inverse wanted) in
+    let inverse : IsTrue w.inverse → HasInverse m s u last.inverse = λ wanted. rw c.send_asked_ball.ensures.inverse (c.in_ok-step_once.ensures.inverse wanted) in
     let lines = lines-told w.inverse m s u (dual_values last.work.dual) last.inverse still.dual_ inverse in
     sent-then (sent-then c.send_done.ensures (c.send_asked_ball.ensures.sent s u has) refl) c.send_asked_inverse.ensures
     (ap₂ (λ x y. (x ++ ball_lines w.ball (ball_at m s u)) ++ y) block lines)

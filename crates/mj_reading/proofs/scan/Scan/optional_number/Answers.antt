@@ -1,5 +1,5 @@
-use Rattle.std.proofs.Common.{None, ap, ◌∙◌, drop, pos}
-use Rattle.mj_reading.specs.Reading.{IsOptional, optional_text, IsRaw, raw_text}
+use Rattle.std.proofs.Common.{None, ap, ◌∙◌, drop}
+use Rattle.mj_reading.specs.Reading.{IsOptional, optional_text}
 use Rattle.mj_reading.proofs.ReadingLaws.{token-found, token-missed, optional-bytes}
 use Rattle.mj_reading.proofs.scan.Scan.optional_number.Goals as goal
 

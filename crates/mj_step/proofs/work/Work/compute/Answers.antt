@@ -127,7 +127,8 @@ returns-clause-gap c =
 pub returns-clause-enclosed : goal.returns-clause-enclosed
 returns-clause-enclosed c =
     let same = c.fill_report.ensures.dual ∙ c.accelerate.ensures.dual ∙ c.push_constraints.ensures.dual ∙ c.enclose.ensures.dual in
-    told-certified c.args.model.now c.args.state.now c.args.controls.now _ _ _
+    let last = c.fill_report.new.self in
+    told-certified c.args.model.now c.args.state.now c.args.controls.now last.next last.dual last.report
     (ap (λ (d : Dual). dual_values d) same ∙ c.in_ok-constrain.ensures.rows.dual_) c.fill_report.ensures.report
 
 pub returns-clause-forces : goal.returns-clause-forces

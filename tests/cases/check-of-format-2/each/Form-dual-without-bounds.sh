@@ -1,0 +1,3 @@
+#> rejected 12 Form
+#= 9
+sed -e '12s/ bounds//' friction.dump

@@ -1,0 +1,2 @@
+#> accepted 1
+cat equality.dump

@@ -1,0 +1,4 @@
+#> rejected 15 Form
+#= 9
+cat ../limit/stdout
+echo

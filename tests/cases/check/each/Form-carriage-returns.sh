@@ -1,0 +1,3 @@
+#> rejected 1 Form
+#= 9
+sed 's/$/\r/' ../limit/stdout

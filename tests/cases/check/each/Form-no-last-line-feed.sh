@@ -1,0 +1,3 @@
+#> rejected 14 Form
+#= 9
+head -c -1 ../limit/stdout

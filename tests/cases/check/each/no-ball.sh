@@ -1,0 +1,2 @@
+#> accepted 1
+sed -e '13a ball none' ../limit/stdout

@@ -1,0 +1,2 @@
+#> accepted 0
+cat ../no-steps/stdout

@@ -1,0 +1,2 @@
+#> accepted 2
+./blocks 2
