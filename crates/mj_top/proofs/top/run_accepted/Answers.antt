@@ -89,8 +89,8 @@ returns-in-Batch-clause-unread g c = λ none.
 pub run_files-requires-clause-run : goal.run_files-requires-clause-run
 run_files-requires-clause-run g c = inl (sym c.in-Run.ensures)
 
-pub run_files-in-Inverse-requires-clause-run : goal.run_files-in-Inverse-requires-clause-run
-run_files-in-Inverse-requires-clause-run g c = inr (sym c.in-Inverse.ensures)
+pub run_files-requires-in-Inverse-clause-run : goal.run_files-requires-in-Inverse-clause-run
+run_files-requires-in-Inverse-clause-run g c = inr (sym c.in-Inverse.ensures)
 
 pub returns-in-Check-clause-outcome : goal.returns-in-Check-clause-outcome
 returns-in-Check-clause-outcome g c = λ told.
