@@ -1,5 +1,5 @@
 -- Laws of the lines of a dual.
-use Rattle.std.proofs.Common.{◌≡◌, ℕ, ◌+◌, ◌<◌, ◌≤◌, ℤ, Bool, true, false, cond, List, ◌++◌, ◌∷◌, [], codes, length, get_or, Option, Some, None, Result, Ok, Err, refl, sym, ap, ◌∙◌, subst, append_assoc, length-append, arith, inl, inr}
+use Rattle.std.proofs.Common.{◌≡◌, ℕ, ◌+◌, ◌<◌, ℤ, Bool, true, false, cond, List, ◌++◌, ◌∷◌, [], codes, length, Option, Some, None, Result, Ok, Err, refl, sym, ap, ◌∙◌, subst, append_assoc, length-append, arith, inl, inr}
 use Rattle.std.proofs.lemmas.Bool.{cases_eq}
 use Rattle.std.proofs.Math.ListN.{get_or-append}
 use Rattle.std.proofs.Math.Seq.{get_or-append_seam}
@@ -16,7 +16,6 @@ use Rattle.mj_check.specs.Lines.{DualTold, IsDualRowAt, AreDualRows, head_line, 
 use Rattle.mj_check.specs.Numbers.{dual_at, no_dual}
 use Rattle.mj_check.specs.Rows.{raw_bound, row_at, both_bounds}
 use Rattle.mj_check.specs.Stated.{StatesRow, HasSameRow, States}
-use Rattle.mj_check.proofs.BoundLaws.{bound-before}
 use Rattle.mj_check.proofs.NumberLaws.{none-before}
 
 pub mark-before : (bounds : Bool) (behind : List ℕ) → NoNumber behind → NoNumber (cond bounds (codes " bounds") [] ++ behind)
@@ -54,11 +53,11 @@ pub states-more : (d e : Dual) (rows : List ActiveRow) (duals : List DualTold) (
 states-more d e rows duals told n m before here s = record {
   count = m ∙ ap (λ (k : ℕ). k + 1) s.count ∙ sym (length-append duals (told ∷ []));
   each = λ i l. elim (cases_eq i d.m) [
-    inl z ↦ subst (λ (j : ℕ). StatesRow e (row_at rows j) (dual_at (duals ++ (told ∷ [])) j) j) (sym z) (subst (λ (t : DualTold). StatesRow e (row_at rows d.m) t d.m) (sym (ap (dual_at (duals ++ (told ∷ []))) s.count ∙ get_or-append_seam duals told [] no_dual)) here)
-  | inr o ↦
-      let f : i < d.m = omega arith in
-      let c = s.count in
-      subst (λ (t : DualTold). StatesRow e (row_at rows i) t i) (sym (get_or-append duals (told ∷ []) no_dual i (omega arith))) (states-row-stays d e (row_at rows i) (dual_at duals i) i n (before i f) (s.each i f))
+    | inl z ↦ subst (λ (j : ℕ). StatesRow e (row_at rows j) (dual_at (duals ++ (told ∷ [])) j) j) (sym z) (subst (λ (t : DualTold). StatesRow e (row_at rows d.m) t d.m) (sym (ap (dual_at (duals ++ (told ∷ []))) s.count ∙ get_or-append_seam duals told [] no_dual)) here)
+    | inr o ↦
+        let f : i < d.m = omega arith in
+        let c = s.count in
+        subst (λ (t : DualTold). StatesRow e (row_at rows i) t i) (sym (get_or-append duals (told ∷ []) no_dual i (omega arith))) (states-row-stays d e (row_at rows i) (dual_at duals i) i n (before i f) (s.each i f))
   ];
 }
 
@@ -72,5 +71,8 @@ dual-missed bounds nv m rows at rest e c h = inr (e, subst (λ (k : ℕ). Line A
 
 pub dual-found : (bounds : Bool) (width nv m : ℕ) (rows : List ActiveRow) (at : ℕ) (rest behind : List ℕ) (r : Result (List DualTold × List ℕ) Rejection) → m ≡ length rows → width ≡ nv → Line Any (λ (u : Unit {0}). head_line bounds m nv) at rest (Ok (tt, behind)) → AreDualRows bounds width rows (length rows) (at + 1) behind r → IsDual bounds nv rows at rest r
 dual-found bounds width nv m rows at rest behind r c n h d =
-    inl ((tt, behind), subst (λ (k : ℕ). Line Any (λ (u : Unit {0}). head_line bounds k nv) at rest (Ok (tt, behind))) c h,
-    subst (λ (k : ℕ). AreDualRows bounds k rows (length rows) (at + 1) behind r) n d)
+    inl (
+      (tt, behind),
+      subst (λ (k : ℕ). Line Any (λ (u : Unit {0}). head_line bounds k nv) at rest (Ok (tt, behind))) c h,
+      subst (λ (k : ℕ). AreDualRows bounds k rows (length rows) (at + 1) behind r) n d,
+    )

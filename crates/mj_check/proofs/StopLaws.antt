@@ -1,5 +1,5 @@
 -- Laws of the text of a stop.
-use Rattle.std.proofs.Common.{◌≡◌, ℕ, ◌-◌, ◌^◌, ◌<◌, ◌≤◌, List, ◌++◌, codes, decimal, get_or, refl, sym, ap, ◌∙◌, append_assoc, arith}
+use Rattle.std.proofs.Common.{◌≡◌, ℕ, ◌-◌, ◌^◌, ◌<◌, List, ◌++◌, codes, decimal, get_or, refl, sym, ap, ◌∙◌, append_assoc, arith}
 use Rattle.mj_optimum.specs.declared.stop.Stop.{Stop}
 use Rattle.mj_optimum.specs.declared.stop.Stop.TheVariants as stop
 use Rattle.mj_trace.specs.Block.{stop_text}

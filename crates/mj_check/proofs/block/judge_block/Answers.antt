@@ -1,4 +1,4 @@
-use Rattle.std.proofs.Common.{◌+◌, Ok, refl, inl, inr}
+use Rattle.std.proofs.Common.{◌+◌, refl, inl, inr}
 use Rattle.std.proofs.lemmas.Result.{err_from_is_err_and}
 use Rattle.mj_check.specs.Judging.{found_as}
 use Rattle.mj_check.specs.Verdict.{IsClosed, tells_bounds}

@@ -1,5 +1,5 @@
 use Rattle.std.proofs.Common.{sym, ◌∙◌}
-use Rattle.mj_check.proofs.JudgingLaws.{line-found, line-missed}
+use Rattle.mj_check.proofs.JudgingLaws.{line-missed}
 use Rattle.mj_check.proofs.dual.find_dual_row.Goals as goal
 
 pub returns-else-is_going-clause-line : goal.returns-else-is_going-clause-line

@@ -1,4 +1,4 @@
-use Rattle.std.proofs.Common.{[], Ok, Err, sym, ◌∙◌}
+use Rattle.std.proofs.Common.{[]}
 use Rattle.std.proofs.lemmas.Result.{err_from_is_err_and}
 use Rattle.mj_check.specs.Judging.{found_as}
 use Rattle.mj_check.proofs.DualLaws.{dual-missed, dual-found}

@@ -19,7 +19,7 @@ returns-in_err-take_dual_row-clause-lines c =
     let e : Rejection = c.in_err-take_dual_row.field-0.0 in
     let start : List DualTold × List ℕ = ([], c.args.scan.now.rest) in
     let here : IsDualRowAt c.args.bounds nv (row_at rows c.loop-i.i) (c.args.line + c.loop-i.i) c.loop-i.scan.rest (Err e) =
-      row-at-same c.args.bounds c.loop-i.making.dual.nv nv rows c.entry.result.now c.loop-i.i (c.args.line + c.loop-i.i) c.loop-i.scan.rest (Err e) c.loop-i.invariant.nv (c.entry.ensures no_row) c.in_err-take_dual_row.ensures.line.2 in
+    row-at-same c.args.bounds c.loop-i.making.dual.nv nv rows c.entry.result.now c.loop-i.i (c.args.line + c.loop-i.i) c.loop-i.scan.rest (Err e) c.loop-i.invariant.nv (c.entry.ensures no_row) c.in_err-take_dual_row.ensures.line.2 in
     rw (q.1, q.2) (duals, tt, each-stops one (length rows) (c.loop-i.i + 1) start e (omega arith) (each-more one c.loop-i.i start (duals, c.loop-i.scan.rest) (Err e) c.loop-i.invariant.lines.2 (inr (e, here, refl))))
 
 pub loop-i-preserved : goal.loop-i-preserved
@@ -35,14 +35,17 @@ loop-i-preserved c =
     let m = c.loop-i.invariant.m in
     let found : DualTold × List ℕ = (told, rest) in
     let here : IsDualRowAt c.args.bounds nv (row_at rows c.loop-i.i) (c.args.line + c.loop-i.i) c.loop-i.scan.rest (Ok found) =
-      row-at-same c.args.bounds c.loop-i.making.dual.nv nv rows c.entry.result.now c.loop-i.i (c.args.line + c.loop-i.i) c.loop-i.scan.rest (Ok found) c.loop-i.invariant.nv row c.in_ok-take_dual_row.ensures.line.2 in
+    row-at-same c.args.bounds c.loop-i.making.dual.nv nv rows c.entry.result.now c.loop-i.i (c.args.line + c.loop-i.i) c.loop-i.scan.rest (Ok found) c.loop-i.invariant.nv row c.in_ok-take_dual_row.ensures.line.2 in
     let states : StatesRow c.take_dual_row.new.making.dual (row_at rows c.loop-i.making.dual.m) told c.loop-i.making.dual.m =
-      subst (λ (x : ActiveRow). StatesRow c.take_dual_row.new.making.dual x told c.loop-i.making.dual.m) (sym (ap (row_at rows) m ∙ row)) c.in_ok-take_dual_row.ensures.line.1 in
+    subst (λ (x : ActiveRow). StatesRow c.take_dual_row.new.making.dual x told c.loop-i.making.dual.m) (sym (ap (row_at rows) m ∙ row)) c.in_ok-take_dual_row.ensures.line.1 in
     record {
       going = c.in_ok-take_dual_row.ensures.going;
       room = c.take_dual_row.ensures.room;
       nv = c.take_dual_row.ensures.nv ∙ c.loop-i.invariant.nv;
       m = c.in_ok-take_dual_row.ensures.m ∙ ap (λ (k : ℕ). k + 1) m;
-      lines = (duals ++ (told ∷ []), states-more c.loop-i.making.dual c.take_dual_row.new.making.dual rows duals told c.take_dual_row.ensures.nv c.in_ok-take_dual_row.ensures.m c.in_ok-take_dual_row.ensures.before states c.loop-i.invariant.lines.1,
-      each-more one c.loop-i.i start (duals, c.loop-i.scan.rest) (Ok (duals ++ (told ∷ []), rest)) c.loop-i.invariant.lines.2 (inl (found, here, refl)));
+      lines = (
+        duals ++ (told ∷ []),
+        states-more c.loop-i.making.dual c.take_dual_row.new.making.dual rows duals told c.take_dual_row.ensures.nv c.in_ok-take_dual_row.ensures.m c.in_ok-take_dual_row.ensures.before states c.loop-i.invariant.lines.1,
+        each-more one c.loop-i.i start (duals, c.loop-i.scan.rest) (Ok (duals ++ (told ∷ []), rest)) c.loop-i.invariant.lines.2 (inl (found, here, refl)),
+      );
     }

@@ -1,4 +1,4 @@
-use Rattle.std.proofs.Common.{◌≡◌, ℕ, List, [], true, Ok}
+use Rattle.std.proofs.Common.{◌≡◌, List, [], true, Ok}
 use Rattle.mj_check.specs.Judging.{Each}
 use Rattle.mj_check.specs.Lines.{DualTold, IsNextDualRow}
 use Rattle.mj_check.specs.Stated.{HasPlaces, States}

@@ -1,5 +1,4 @@
 use Rattle.std.proofs.Common.{refl, ap}
-use Rattle.mj_types.specs.Duals.{wide_at}
 use Rattle.mj_reading.specs.Reading.{Any, IsRaw}
 use Rattle.mj_reading.proofs.ReadingLaws.{read-as, read-then}
 use Rattle.mj_check.specs.Lines.{AreWide, dual_told}

@@ -1,5 +1,3 @@
-use Rattle.std.proofs.Common.{refl}
-use Rattle.mj_reading.proofs.ReadingLaws.{read-nothing}
 use Rattle.mj_check.proofs.dual.read_mark.Goals as goal
 
 pub returns-then-bounds : goal.returns-then-bounds
