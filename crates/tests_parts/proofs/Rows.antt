@@ -8,7 +8,6 @@ use Rattle.mj_types.specs.declared.parts.Soft.{Soft}
 use Rattle.mj_types.specs.declared.range.Quantity.TheVariants as kind
 use Rattle.mj_types.specs.declared.rows.Source.TheVariants as source
 use Rattle.mj_types.specs.Parts.{plain, no_soft}
-use Rattle.mj_rows.specs.declared.limits.Extent.{Extent}
 use Rattle.mj_rows.specs.Constraint.{violation_fault}
 use Rattle.mj_rows.specs.Edges.{apart, edge_slope, velocity_of}
 use Rattle.mj_rows.specs.Limits.{above_least, below_greatest, is_high, is_low, limit}
@@ -21,27 +20,21 @@ abbrev half : ℤ
 half = pos 2147483648
 
 -- ---- a slide from 0 to 4 that is at -0.5, without a margin and with one of 5
-abbrev extent : ℤ → Extent
-extent margin = record {
-  range = Some (record { least = plain (pos 0); greatest = plain (pos 17179869184) });
-  margin = plain margin;
-  soft = no_soft;
-  value = plain (neg_ℤ half);
-}
-
-low_stands : is_low (extent (pos 0)) ≡ true
+low_stands : is_low (record { range = Some (record { least = plain (pos 0); greatest = plain (pos 17179869184) }); margin = plain (pos 0); soft = no_soft; value = plain (neg_ℤ half) }) ≡ true
 low_stands = refl
 
-high_does_not : is_high (extent (pos 0)) ≡ false
+high_does_not : is_high (record { range = Some (record { least = plain (pos 0); greatest = plain (pos 17179869184) }); margin = plain (pos 0); soft = no_soft; value = plain (neg_ℤ half) }) ≡ false
 high_does_not = refl
 
-low_violation : (limit (source.Low 1) (extent (pos 0)) (above_least (extent (pos 0))) (λ d. one)).r ≡ neg_ℤ half
+low_violation :
+    (limit (source.Low 1) (record { range = Some (record { least = plain (pos 0); greatest = plain (pos 17179869184) }); margin = plain (pos 0); soft = no_soft; value = plain (neg_ℤ half) }) (above_least (record { range = Some (record { least = plain (pos 0); greatest = plain (pos 17179869184) }); margin = plain (pos 0); soft = no_soft; value = plain (neg_ℤ half) })) (λ d. one)).r ≡ neg_ℤ half
 low_violation = refl
 
-high_within_margin : is_high (extent (pos 21474836480)) ≡ true
+high_within_margin : is_high (record { range = Some (record { least = plain (pos 0); greatest = plain (pos 17179869184) }); margin = plain (pos 21474836480); soft = no_soft; value = plain (neg_ℤ half) }) ≡ true
 high_within_margin = refl
 
-high_violation : (limit (source.High 1) (extent (pos 21474836480)) (below_greatest (extent (pos 21474836480))) (λ d. one)).r ≡ neg_ℤ half
+high_violation :
+    (limit (source.High 1) (record { range = Some (record { least = plain (pos 0); greatest = plain (pos 17179869184) }); margin = plain (pos 21474836480); soft = no_soft; value = plain (neg_ℤ half) }) (below_greatest (record { range = Some (record { least = plain (pos 0); greatest = plain (pos 17179869184) }); margin = plain (pos 21474836480); soft = no_soft; value = plain (neg_ℤ half) })) (λ d. one)).r ≡ neg_ℤ half
 high_violation = refl
 
 -- ---- an equality may be violated by 2^21
