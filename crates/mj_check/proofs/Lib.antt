@@ -1,2 +1,11 @@
+pub mod TextLaws
+pub mod TokenLaws
+pub mod EndLaws
+pub mod KeptLaws
+pub mod KindLaws
+pub mod BallLaws
+pub mod SourceLaws
+pub mod BoundLaws
+pub mod RowLaws
 pub mod JudgingLaws
 pub mod NumberLaws

@@ -103,23 +103,23 @@ abbrev pub dual_at : List DualTold → ℕ → DualTold
 dual_at duals i = slice_index_or duals i no_dual
 
 -- row i of it
-pub record IsRowOf (nv : ℕ) (row : ActiveRow) (dual : DualTold) (p : Problem) (place : ℕ → ℕ) (x : Printed) (i : ℕ) : Type 0 where
+pub record IsRowOf (nv : ℕ) (row : ActiveRow) (dual : DualTold) (p : Problem) (places : ℕ → ℕ) (x : Printed) (i : ℕ) : Type 0 where
   pub g : (k : ℕ) → k < nv → p.g i k ≡ dual.g k
   pub r : p.r i ≡ dual.r
   pub b : p.b i ≡ dual.b
   pub low : p.low i ≡ raw_bound row.told.bounds.low
   pub high : p.high i ≡ raw_bound row.told.bounds.high
-  pub place : place i ≡ row.place
+  pub place : places i ≡ row.place
   pub f : x.f i ≡ row.told.f.raw
   pub lo : x.lo i ≡ row.told.lo.raw
   pub hi : x.hi i ≡ row.told.hi.raw
 
-pub record AreNumbersOf (nv : ℕ) (rows : List ActiveRow) (duals : List DualTold) (told : Pair) (p : Problem) (place : ℕ → ℕ) (x : Printed) : Type 0 where
+pub record AreNumbersOf (width : ℕ) (rows : List ActiveRow) (duals : List DualTold) (told : Pair) (p : Problem) (place : ℕ → ℕ) (x : Printed) : Type 0 where
   pub m : p.m ≡ length rows
-  pub nv : p.nv ≡ nv
+  pub nv : p.nv ≡ width
   pub cost : x.cost ≡ told.first.raw
   pub bound : x.bound ≡ told.second.raw
-  pub each : (i : ℕ) → i < length rows → IsRowOf nv (row_at rows i) (dual_at duals i) p place x i
+  pub each : (i : ℕ) → i < length rows → IsRowOf width (row_at rows i) (dual_at duals i) p place x i
 
 -- they are judged
 abbrev pub IsJudgedBy : ℕ → List ActiveRow → List DualTold → Pair → ℕ → ℕ → Result (Unit {0}) Rejection → Type 0

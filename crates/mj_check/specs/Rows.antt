@@ -43,11 +43,11 @@ bounds_line bounds x = cond bounds ((codes " in" ++ bound_text (raw_bound x.low)
 abbrev pub told_line : Bool → Told → List ℕ
 told_line bounds x = ((spaced x.f.raw ++ spaced x.lo.raw) ++ spaced x.hi.raw) ++ bounds_line bounds x.bounds
 
-pub record IsTold (bounds : Bool) (x : Told) : Type 0 where
+pub record IsTold (tells : Bool) (x : Told) : Type 0 where
   pub force : IsRaw x.f
   pub lo : IsRaw x.lo
   pub hi : IsRaw x.hi
-  pub bounds : AreBounds bounds x.bounds
+  pub bounds : AreBounds tells x.bounds
 
 -- an idle row has none of them
 abbrev pub rest_line : Bool → Option Told → List ℕ

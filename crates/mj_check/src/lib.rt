@@ -19,4 +19,3 @@ pub mod room;
 pub mod rows;
 pub mod sources;
 
-pub use check::check;
