@@ -9,3 +9,5 @@ pub mod BoundLaws
 pub mod RowLaws
 pub mod JudgingLaws
 pub mod NumberLaws
+pub mod FaultLaws
+pub mod VerdictLaws
