@@ -1,5 +1,5 @@
 -- Laws of the texts of a row's bounds.
-use Rattle.std.proofs.Common.{◌≡◌, ℕ, ℤ, pos, Bool, true, false, List, ◌++◌, codes, Option, Some, None, refl, ap, sym, ◌∙◌}
+use Rattle.std.proofs.Common.{◌≡◌, ℕ, ℤ, pos, Bool, true, false, List, ◌++◌, codes, Option, Some, None, refl}
 use Rattle.fx_num.specs.declared.number.Wide.{Wide}
 use Rattle.mj_trace.specs.Block.{bound_text}
 use Rattle.mj_reading.specs.Reading.{NoNumber, optional_text}

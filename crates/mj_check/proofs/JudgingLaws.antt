@@ -1,7 +1,6 @@
 -- Laws of judging line by line.
-use Rattle.std.proofs.Common.{◌≡◌, ℕ, zero, suc, ◌+◌, ◌≤◌, true, false, List, ◌++◌, Result, Ok, Err, refl, sym, ap, ◌∙◌, subst, arith, add-one, inl, inr}
+use Rattle.std.proofs.Common.{◌≡◌, ℕ, zero, suc, ◌+◌, ◌≤◌, true, false, List, Result, Ok, Err, refl, sym, subst, arith, add-one, inl, inr}
 use Rattle.std.proofs.lemmas.Bool.{cases_eq}
-use Rattle.mj_types.specs.declared.verdict.Reason.{Reason}
 use Rattle.mj_types.specs.declared.verdict.Reason.TheVariants as reason
 use Rattle.mj_reading.specs.Reading.{Ahead, Anything, Read}
 use Rattle.mj_check.specs.declared.rejection.Rejection.{Rejection}

@@ -1,5 +1,5 @@
 -- Laws of the names of kinds.
-use Rattle.std.proofs.Common.{◌≡◌, ◌∙◌, ℕ, suc, ◌+◌, ◌<◌, Bool, true, false, cond, List, [], ◌∷◌, length, drop, get_or, Option, Some, None, find, sym, ap, refl, add-one}
+use Rattle.std.proofs.Common.{◌≡◌, ◌∙◌, ℕ, suc, ◌+◌, ◌<◌, Bool, true, false, List, ◌∷◌, length, drop, get_or, Some, find, sym, ap, refl, add-one}
 use Rattle.std.proofs.Math.Seq.{drop-cons}
 
 module _ {A : Type 0} (p : A → Bool) (d : A) where

@@ -1,3 +1,5 @@
+pub mod StopLaws
+pub mod DualLaws
 pub mod TextLaws
 pub mod TokenLaws
 pub mod EndLaws

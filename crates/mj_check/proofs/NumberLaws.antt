@@ -1,9 +1,8 @@
 -- What the judgement of a block's numbers means, and how lists of numbers are read.
-use Rattle.std.proofs.Common.{◌≡◌, ℕ, ◌<◌, ◌+◌, ◌*◌, ◌^◌, ◌≤◌, zero, suc, ℤ, pos, ◌+ℤ◌, ◌*ℤ◌, ◌≤ℤ◌, int_le, Bool, true, false, ◌&&◌, cond, is_none, Option, Some, None, unsigned_abs, List, ◌++◌, lit≤, refl, sym, ap, ap₂, ◌∙◌, subst, arith, add-one, append_assoc, inl, inr}
+use Rattle.std.proofs.Common.{◌≡◌, ℕ, ◌<◌, ◌+◌, ◌*◌, ◌^◌, ◌≤◌, zero, suc, ℤ, pos, ◌*ℤ◌, int_le, Bool, true, false, ◌&&◌, is_none, Option, Some, None, unsigned_abs, List, ◌++◌, lit≤, refl, sym, ap, ◌∙◌, subst, arith, add-one, append_assoc, inl, inr}
 use Rattle.std.proofs.lemmas.Bool.{cases_eq}
 use Rattle.std.proofs.lemmas.Int.{ints}
-use Rattle.std.proofs.lemmas.Bool.Decides.{nat_tests}
-use Rattle.fx_whole.specs.First.{or_first, first_to}
+use Rattle.fx_whole.specs.First.{first_to}
 use Rattle.fx_whole.specs.Sums.{sum_to}
 use Rattle.fx_whole.proofs.FirstLaws.{or_both, first_none}
 use Rattle.fx_whole.proofs.JoinedLaws.{joined-none, joined-more, joined-ext}
@@ -12,11 +11,11 @@ use Rattle.fx_num.specs.declared.number.Number.{Number}
 use Rattle.fx_num.specs.declared.number.Wide.{Wide}
 use Rattle.fx_text.specs.Raw.{IsWide}
 use Rattle.mj_optimum.specs.Problem.{Problem, IsRegular}
-use Rattle.mj_optimum.specs.Cost.{cost, reach}
+use Rattle.mj_optimum.specs.Cost.{cost}
 use Rattle.mj_optimum.specs.Feasible.{IsFeasible, IsAbove, IsBelow}
 use Rattle.mj_optimum.specs.Shortfall.{bound2}
 use Rattle.mj_optimum.specs.Box as ends
-use Rattle.mj_optimum.specs.Enclosure.{BoundHolds, BoxHolds, CostsNoMore, IsWithin}
+use Rattle.mj_optimum.specs.Enclosure.{BoundHolds}
 use Rattle.mj_optimum.proofs.BoundLaws.{bound_holds}
 use Rattle.mj_optimum.proofs.BoxLaws.{box_holds}
 use Rattle.mj_types.specs.declared.dual.Dual.{Dual}
@@ -28,7 +27,6 @@ use Rattle.mj_cert.proofs.SolvedLaws.{products-fit, Fits}
 use Rattle.mj_trace.specs.Lines.{spaced, numbers_text}
 use Rattle.mj_reading.specs.Reading.{Ahead, Read, Is, IsRaw, NoNumber}
 use Rattle.mj_reading.proofs.ReadingLaws.{read-as, read-same, read-then}
-use Rattle.mj_check.specs.declared.rejection.Rejection.{Rejection}
 use Rattle.mj_check.specs.Lines.{Agree, AreWide}
 use Rattle.mj_check.specs.Numbers.{unless, is_above, is_below, is_feasible, is_same, numbers_out, Printed, Promise, force_fault, box_fault, numbers_fault, row_line}
 
@@ -116,5 +114,5 @@ pub none-before : (n : ℕ) (f : ℕ → ℤ) (behind : List ℕ) → NoNumber b
 none-before zero f behind b = subst (λ (y : List ℕ). NoNumber (y ++ behind)) (sym (joined-none (λ i. spaced (f i)))) b
 none-before (suc n) f behind b =
     let e : numbers_text (suc n) f ++ behind ≡ numbers_text n f ++ (spaced (f n) ++ behind) =
-        ap (λ (k : ℕ). numbers_text k f ++ behind) (sym (add-one n)) ∙ ap (λ y. y ++ behind) (joined-more n (λ i. spaced (f i))) ∙ append_assoc (numbers_text n f) (spaced (f n)) behind in
+    ap (λ (k : ℕ). numbers_text k f ++ behind) (sym (add-one n)) ∙ ap (λ y. y ++ behind) (joined-more n (λ i. spaced (f i))) ∙ append_assoc (numbers_text n f) (spaced (f n)) behind in
     subst NoNumber (sym e) (none-before n f (spaced (f n) ++ behind) refl)

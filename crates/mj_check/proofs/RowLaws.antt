@@ -1,12 +1,10 @@
 -- Laws of the texts of rows.
-use Rattle.std.proofs.Common.{◌≡◌, ℕ, ◌++◌, ◌∷◌, [], List, Bool, codes, drop, Option, Some, None, IfSome, refl, sym, ap, ◌∙◌, append_assoc}
+use Rattle.std.proofs.Common.{◌≡◌, ℕ, ◌++◌, List, Bool, codes, Option, Some, None, IfSome, refl, sym, ◌∙◌, append_assoc}
 use Rattle.mj_trace.specs.Lines.{spaced}
 use Rattle.mj_reading.specs.Reading.{NoNumber, Any}
 use Rattle.mj_reading.proofs.ReadingLaws.{number-letter}
 use Rattle.mj_check.specs.declared.rows.Told.{Told}
-use Rattle.mj_check.specs.declared.rows.Bounds.{Bounds}
 use Rattle.mj_check.specs.declared.rows.RowTold.{RowTold}
-use Rattle.mj_check.specs.declared.sources.SourceTold.{SourceTold}
 use Rattle.mj_check.specs.Rows.{IsTold, told_line, rest_line, bounds_line}
 
 pub four-apart : (a b c d e : List ℕ) → (((a ++ b) ++ c) ++ d) ++ e ≡ a ++ (b ++ (c ++ (d ++ e)))

@@ -1,5 +1,5 @@
 -- Laws of the texts of sources.
-use Rattle.std.proofs.Common.{◌≡◌, ℕ, ◌++◌, ◌∷◌, [], List, Bool, codes, decimal, Option, Some, None, refl, sym, ap, ◌∙◌, append_assoc, append-nil}
+use Rattle.std.proofs.Common.{◌≡◌, ℕ, ◌++◌, List, codes, decimal, Option, Some, None, refl, sym, append_assoc, append-nil}
 use Rattle.mj_trace.specs.Block.{source_text}
 use Rattle.mj_reading.specs.Reading.{NoNumber}
 use Rattle.mj_check.specs.declared.sources.SourceName.{SourceName}

@@ -1,5 +1,5 @@
 -- Laws of the names of kinds, as an end line tells them.
-use Rattle.std.proofs.Common.{◌≡◌, ◌∙◌, ℕ, true, false, cond, Bool, List, [], ◌∷◌, Option, Some, None, IfSome, find, sym, ap, refl, subst}
+use Rattle.std.proofs.Common.{◌≡◌, ◌∙◌, ℕ, List, [], ◌∷◌, Option, Some, IfSome, find, sym, ap, refl, subst}
 use Rattle.std.specs.Str.{bytes_eq}
 use Rattle.std.proofs.lemmas.Slice.Eq.{bytes_eq-Decides}
 use Rattle.mj_types.specs.declared.range.Quantity.{Quantity}

@@ -1,5 +1,5 @@
 -- The other lines of a dump: the texts that a run writes, of what is in form.
-use Rattle.std.specs.Prelude.{◌≡◌, ℕ, ◌+◌, ◌-◌, ◌^◌, ◌≤◌, ◌<◌, ℤ, pos, ◌≤ℤ◌, unsigned_abs, Bool, cond, Result, Ok, List, [], ◌∷◌, ◌++◌, Option, Some, None, IfSome, codes, decimal, slice_index_or}
+use Rattle.std.specs.Prelude.{◌≡◌, ℕ, ◌+◌, ◌-◌, ◌^◌, ◌≤◌, ◌<◌, ℤ, pos, ◌≤ℤ◌, unsigned_abs, Bool, cond, Result, Ok, List, [], ◌∷◌, ◌++◌, Option, Some, None, IfSome, codes, decimal}
 use Rattle.fx_num.specs.declared.number.Wide.{Wide}
 use Rattle.fx_text.specs.Raw.{IsWide}
 use Rattle.mj_optimum.specs.declared.stop.Stop.{Stop}
@@ -7,9 +7,9 @@ use Rattle.mj_optimum.specs.declared.stop.Stop.TheVariants as stop
 use Rattle.mj_types.specs.declared.range.End.{End}
 use Rattle.mj_types.specs.declared.range.End.TheVariants as finish
 use Rattle.mj_types.specs.Duals.{wide_at}
-use Rattle.mj_trace.specs.Block.{two_text, stop_text}
+use Rattle.mj_trace.specs.Block.{two_text}
 use Rattle.mj_trace.specs.Lines.{line, spaced, numbers_text}
-use Rattle.mj_trace.specs.Trace.{header_text, end_text}
+use Rattle.mj_trace.specs.Trace.{header_text}
 use Rattle.mj_reading.specs.Reading.{Any, IsBetween, IsRaw, raw_text}
 use Rattle.mj_check.specs.declared.rejection.Rejection.{Rejection}
 use Rattle.mj_check.specs.declared.header.Header.{Header}
@@ -18,7 +18,7 @@ use Rattle.mj_check.specs.declared.ball.BallTold.{BallTold}
 use Rattle.mj_check.specs.declared.dual.Sides.{Sides}
 use Rattle.mj_check.specs.declared.rows.ActiveRow.{ActiveRow}
 use Rattle.mj_check.specs.declared.rows.Bounds.{Bounds}
-use Rattle.mj_check.specs.Judging.{Line, Passes, Limited, Then, Each}
+use Rattle.mj_check.specs.Judging.{Line, Limited, Then, Each}
 use Rattle.mj_check.specs.Rows.{both_bounds, row_at}
 use Rattle.mj_check.specs.Sources.{IsKind}
 

@@ -1,7 +1,6 @@
 -- The judgement of a block's numbers in its order, each fault with its line.
 use Rattle.std.specs.Prelude.{◌≡◌, ℕ, ◌+◌, ◌^◌, ◌<◌, ℤ, pos, int_le, Bool, true, ◌&&◌, is_none, cond, List, length, slice_index_or, Option, Some, None, Result}
 use Rattle.fx_whole.specs.First.{or_first, first_to, refusal_of}
-use Rattle.fx_num.specs.declared.number.Wide.{Wide}
 use Rattle.mj_optimum.specs.Problem.{Problem}
 use Rattle.mj_optimum.specs.Cost.{cost, reach}
 use Rattle.mj_optimum.specs.Feasible.{IsFeasible}

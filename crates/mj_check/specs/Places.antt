@@ -1,5 +1,5 @@
 -- The room of a block.
-use Rattle.std.specs.Prelude.{◌≡◌, ℕ, ◌≤◌, length}
+use Rattle.std.specs.Prelude.{◌≤◌, length}
 use Rattle.mj_check.specs.declared.room.Room.{Room}
 use Rattle.mj_check.specs.Stated as stated
 

@@ -1,5 +1,5 @@
 -- A dual that is made from what a block's lines tell.
-use Rattle.std.specs.Prelude.{◌≡◌, ℕ, ◌<◌, ◌≤◌, ◌+◌, ℤ, List, length}
+use Rattle.std.specs.Prelude.{◌≡◌, ℕ, ◌<◌, ◌≤◌, ℤ, List, length}
 use Rattle.mj_types.specs.declared.dual.Dual.{Dual}
 use Rattle.mj_types.specs.Duals.{bound_at, entry_at, wide_at}
 use Rattle.mj_types.specs.Parts.{number_at}

@@ -6,7 +6,7 @@ use Rattle.mj_types.specs.declared.verdict.Reason.TheVariants as reason
 use Rattle.mj_trace.specs.Block.{stop_text}
 use Rattle.mj_trace.specs.Trace.{end_text}
 use Rattle.mj_optimum.specs.Problem.{Problem}
-use Rattle.mj_reading.specs.Reading.{Any, IsBetween}
+use Rattle.mj_reading.specs.Reading.{Any}
 use Rattle.mj_check.specs.declared.rejection.Rejection.{Rejection}
 use Rattle.mj_check.specs.declared.header.Header.{Header}
 use Rattle.mj_check.specs.declared.numbers.Pair.{Pair}

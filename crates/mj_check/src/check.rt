@@ -33,11 +33,7 @@ pub struct Blocks {
 }
 
 // The blocks, as long as one begins and is accepted.
-fn judge_blocks(
-    scan: &mut Scan<'_>,
-    header: &Header,
-    room: &mut Room,
-) -> Result<Blocks, Rejection>
+fn judge_blocks(scan: &mut Scan<'_>, header: &Header, room: &mut Room) -> Result<Blocks, Rejection>
     requires going { scan.old.going ≡ true }
     requires header { IsHeader header.now }
     requires room { HasPlaces room.old }
@@ -62,11 +58,7 @@ fn judge_blocks(
 }
 
 // What stands behind the first line: how many blocks there are.
-fn judge_rest(
-    scan: &mut Scan<'_>,
-    header: &Header,
-    room: &mut Room,
-) -> Result<usize, Rejection>
+fn judge_rest(scan: &mut Scan<'_>, header: &Header, room: &mut Room) -> Result<usize, Rejection>
     requires going { scan.old.going ≡ true }
     requires header { IsHeader header.now }
     requires room { HasPlaces room.old }
@@ -149,11 +141,7 @@ fn verdict_of(judged: Result<usize, Rejection>) -> Verdict
 }
 
 // The verdict of a text of which the first line was found.
-fn verdict_behind(
-    alloc: Global,
-    scan: &mut Scan<'_>,
-    header: &Header,
-) -> Result<Verdict, NoMemory>
+fn verdict_behind(alloc: Global, scan: &mut Scan<'_>, header: &Header) -> Result<Verdict, NoMemory>
     requires going { scan.old.going ≡ true }
     requires header { IsHeader header.now }
     ensures { IfOk result (λ v. (judged : Result ℕ Rejection)

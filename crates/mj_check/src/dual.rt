@@ -240,6 +240,7 @@ fn judge_dual_rows(
     ensures going { IfOk result (λ _. scan.new.going ≡ true) }
     ensures room { stated.HasPlaces making.new }
     ensures nv { making.new.dual.nv ≡ making.old.dual.nv }
+    ensures m { IfOk result (λ _. making.new.dual.m ≡ length rows.now.list) }
     ensures lines { (duals : List spec.DualTold)
         × IfOk result (λ _. stated.States making.new.dual rows.now.list duals)
         × spec.AreDualRows bounds making.old.dual.nv rows.now.list (length rows.now.list) line
@@ -311,6 +312,7 @@ pub(crate) fn judge_dual(
     ensures going { IfOk result (λ _. scan.new.going ≡ true) }
     ensures room { stated.HasPlaces making.new }
     ensures nv { making.new.dual.nv ≡ making.old.dual.nv }
+    ensures m { IfOk result (λ _. making.new.dual.m ≡ length rows.now.list) }
     ensures lines { (duals : List spec.DualTold)
         × IfOk result (λ _. stated.States making.new.dual rows.now.list duals)
         × IsDual bounds making.old.dual.nv rows.now.list line scan.old.rest

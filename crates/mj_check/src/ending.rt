@@ -53,12 +53,7 @@ fn read_end(scan: &mut Scan<'_>, count: usize, steps: usize)
 }
 
 // The last line, in form.
-fn find_end(
-    scan: &mut Scan<'_>,
-    line: usize,
-    count: usize,
-    steps: usize,
-) -> Result<(), Rejection>
+fn find_end(scan: &mut Scan<'_>, line: usize, count: usize, steps: usize) -> Result<(), Rejection>
     requires going { scan.old.going ≡ true }
     ensures going { IfOk result (λ _. scan.new.going ≡ true) }
     ensures line { Passes (spec.IsEnd count steps) end_text line scan.old.rest

@@ -27,7 +27,11 @@ use mj_types::{Cert, Dual, Forces, OutOfRange, Quantity, Reason};
 fn unless(good: bool, line: usize, reason: Reason) -> Result<(), Rejection>
     ensures { refusal_of result ≡ spec.unless good line reason }
 {
-    if good { Ok(()) } else { Err(Rejection { line, reason }) }
+    if good {
+        Ok(())
+    } else {
+        Err(Rejection { line, reason })
+    }
 }
 
 // Whether a force is at least its low bound.
@@ -165,11 +169,7 @@ fn judge_reach(dual: &Dual, f: &Array<Fix<20>>, k: usize) -> Result<Fix<44>, Out
 }
 
 // u, judged dof by dof.
-fn fill_reach(
-    dual: &Dual,
-    f: &Array<Fix<20>>,
-    u: &mut Array<Fix<44>>,
-) -> Result<(), OutOfRange>
+fn fill_reach(dual: &Dual, f: &Array<Fix<20>>, u: &mut Array<Fix<44>>) -> Result<(), OutOfRange>
     requires room { dual.now.m ≤ length f.now }
     requires u_room { dual.now.nv ≤ length u.old }
     requires small { (i : ℕ) → i < dual.now.m → unsigned_abs (number_at f.now i) ≤ 2 ^ 50 }
@@ -242,7 +242,14 @@ fn is_same_cost(told: &Wide<0>, cost: &i128) -> bool
 }
 
 // Whether the box of row i is the certificate's.
-fn is_boxed(dual: &Dual, forces: &Forces, cert: &Cert, rows: &Listing<ActiveRow>, told: &Pair, i: usize) -> bool
+fn is_boxed(
+    dual: &Dual,
+    forces: &Forces,
+    cert: &Cert,
+    rows: &Listing<ActiveRow>,
+    told: &Pair,
+    i: usize,
+) -> bool
     requires row { i < dual.now.m }
     requires rows { dual.now.m ≤ length rows.now.list }
     requires lo_room { dual.now.m ≤ length cert.now.lo }
@@ -335,7 +342,11 @@ fn judge_bound(
     ensures { refusal_of result ≡ spec.bound_told_fault (problem dual.now)
         (printed_of (problems.forces forces.now) rows.now.list told.now) line }
 {
-    unless(is_same_cost(&told.second, &cert.bound2), line, Reason::Bound)
+    unless(
+        is_same_cost(&told.second, &cert.bound2),
+        line,
+        Reason::Bound,
+    )
 }
 
 // What is printed beside the forces is judged against a certificate.

@@ -18,4 +18,3 @@ pub mod rejection;
 pub mod room;
 pub mod rows;
 pub mod sources;
-

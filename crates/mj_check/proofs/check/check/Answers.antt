@@ -1,4 +1,4 @@
-use Rattle.std.proofs.Common.{refl, inl, arith}
+use Rattle.std.proofs.Common.{arith}
 use Rattle.mj_check.proofs.TextLaws.{judged-small}
 use Rattle.mj_check.proofs.check.check.Goals as goal
 

@@ -1,8 +1,7 @@
-use Rattle.std.proofs.Common.{◌≡◌, ◌+◌, ◌≤◌, ◌<◌, ◌∙◌, ℕ, List, Result, Ok, Err, refl, sym, subst, arith}
+use Rattle.std.proofs.Common.{◌≡◌, ◌+◌, ℕ, Ok, refl, subst, arith}
 use Rattle.std.proofs.lemmas.Result.{err_from_is_err_and}
 use Rattle.mj_check.specs.Judging.{Each}
-use Rattle.mj_check.specs.declared.rejection.Rejection.{Rejection}
-use Rattle.mj_check.specs.Verdict.{IsBlock, AreBlocks}
+use Rattle.mj_check.specs.Verdict.{IsBlock}
 use Rattle.mj_check.proofs.JudgingLaws.{each-more}
 use Rattle.mj_check.proofs.check.judge_blocks.Goals as goal
 

@@ -1,4 +1,4 @@
-use Rattle.std.proofs.Common.{ap, refl, arith, ◌≡◌}
+use Rattle.std.proofs.Common.{ap}
 use Rattle.mj_types.specs.declared.range.End.TheVariants as finish
 use Rattle.mj_trace.specs.Trace.{end_text}
 use Rattle.mj_reading.proofs.ReadingLaws.{read-case, missed}

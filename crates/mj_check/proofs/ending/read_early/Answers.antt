@@ -1,4 +1,4 @@
-use Rattle.std.proofs.Common.{refl, ◌^◌, ◌-◌, ◌+◌, arith}
+use Rattle.std.proofs.Common.{refl, ◌^◌, ◌-◌, ◌+◌}
 use Rattle.mj_trace.specs.Trace.{end_text}
 use Rattle.mj_reading.specs.Reading.{Any, IsBetween}
 use Rattle.mj_reading.proofs.ReadingLaws.{read-then, read-case}

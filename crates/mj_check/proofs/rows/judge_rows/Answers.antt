@@ -1,7 +1,6 @@
-use Rattle.std.proofs.Common.{◌≡◌, ◌+◌, ◌≤◌, ◌<◌, ◌∙◌, ℕ, List, [], length, true, Result, Ok, Err, refl, sym, ap, subst, inl, inr, arith}
+use Rattle.std.proofs.Common.{◌+◌, ◌∙◌, ℕ, List, [], length, Ok, Err, refl, sym, subst, inl, inr, arith}
 use Rattle.std.proofs.lemmas.Result.{err_from_is_err_and}
 use Rattle.std.proofs.lemmas.List.Elements.{All-nil}
-use Rattle.mj_check.specs.declared.rejection.Rejection.{Rejection}
 use Rattle.mj_check.specs.Rows.{IsNextRow, IsRowAt, IsKept, MayStand, with_row}
 use Rattle.mj_check.specs.Judging.{Each}
 use Rattle.mj_check.specs.declared.rows.ActiveRow.{ActiveRow}
@@ -48,7 +47,7 @@ loop-i-preserved c =
       going = c.in_ok-row.ensures.going;
       most = c.keep.ensures.most ∙ c.loop-i.invariant.most;
       keeps = subst (λ (x : List ActiveRow). Keeps c.args.bounds c.args.counts.now (c.loop-i.i + 1) x) (sym c.keep.ensures.list)
-      (keeps-more c.args.bounds c.args.counts.now c.loop-i.i rows row.told c.loop-i-test.true place c.in_ok-row.ensures.good.row.told c.in_ok-row.ensures.within c.loop-i.invariant.keeps);
+          (keeps-more c.args.bounds c.args.counts.now c.loop-i.i rows row.told c.loop-i-test.true place c.in_ok-row.ensures.good.row.told c.in_ok-row.ensures.within c.loop-i.invariant.keeps);
       lines = subst (λ (x : List ActiveRow). Each one (c.loop-i.i + 1) from (Ok (x, rest))) (sym c.keep.ensures.list)
-      (each-more one c.loop-i.i from (rows, c.loop-i.scan.rest) (Ok (with_row (c.loop-i.i + 1) row.told rows, rest)) c.loop-i.invariant.lines (inl ((row, rest), line, refl)));
+          (each-more one c.loop-i.i from (rows, c.loop-i.scan.rest) (Ok (with_row (c.loop-i.i + 1) row.told rows, rest)) c.loop-i.invariant.lines (inl ((row, rest), line, refl)));
     }

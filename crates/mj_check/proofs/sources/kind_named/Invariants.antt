@@ -1,7 +1,6 @@
 use Rattle.std.proofs.Common.{◌≡◌, drop, find}
 use Rattle.std.specs.Str.{bytes_eq}
 use Rattle.mj_types.specs.Ranges.{quantity_name}
-use Rattle.mj_check.specs.Sources.{all_kinds}
 use Rattle.mj_check.proofs.sources.kind_named.Given as goal
 
 abbrev pub invariant-loop-kind : goal.invariant-loop-kind

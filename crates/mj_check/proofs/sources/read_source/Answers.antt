@@ -1,7 +1,6 @@
-use Rattle.std.proofs.Common.{refl, ◌^◌, ◌-◌, ◌≡◌, sym, subst, Option, ℕ}
+use Rattle.std.proofs.Common.{refl, ◌^◌, ◌-◌, sym, subst}
 use Rattle.mj_reading.specs.Reading.{Any, IsBetween}
 use Rattle.mj_reading.proofs.ReadingLaws.{read-as-good, read-then}
-use Rattle.mj_check.specs.declared.sources.SourceName.{SourceName}
 use Rattle.mj_check.specs.Sources.{IsEdge}
 use Rattle.mj_check.proofs.SourceLaws.{edge-before, same-source, source-told}
 use Rattle.mj_check.proofs.sources.read_source.Goals as goal
