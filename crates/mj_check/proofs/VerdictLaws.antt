@@ -14,7 +14,7 @@ use Rattle.mj_check.specs.Judging.{Then, Each}
 use Rattle.mj_check.specs.Lines.{DualTold, DualWithin, AreDualRows, IsNextDualRow}
 use Rattle.mj_check.specs.Numbers.{AreNumbersOf, IsJudgedBy, Printed, Promise, dual_at, no_dual, numbers_fault}
 use Rattle.mj_check.specs.Rows.{row_at}
-use Rattle.mj_check.specs.Verdict.{Place, IsDual, IsBlock, BlockHolds, HoldEach, BlocksHold, IsJudged, IsVerdict, KeepsPromise, tells_bounds}
+use Rattle.mj_check.specs.Verdict.{Place, IsDual, IsBlock, BlockHolds, HoldEach, BlocksHold, IsJudged, IsVerdict, VerdictHolds, KeepsPromise, tells_bounds}
 use Rattle.mj_check.proofs.FaultLaws.{HaveSameNumbers, fault-same}
 use Rattle.mj_check.proofs.NumberLaws.{accepted_numbers_hold}
 
@@ -110,3 +110,7 @@ accepted-holds text blocks (inr (few, (Ok n, j, e))) =
     let same : n ≡ blocks = cc in
     subst (BlocksHold text) same (judged-holds text n j)
 accepted-holds text blocks (inr (few, (Err r, j, e))) = absurd cc
+
+pub verdict-holds : (text : List ℕ) (answer : Verdict) → IsVerdict text answer → VerdictHolds text answer
+verdict-holds text (verdict.Accepted blocks) is = accepted-holds text blocks is
+verdict-holds text (verdict.Rejected line why) is = tt

@@ -124,3 +124,8 @@ HoldEach h (suc n) from to = (mid : Place) × HoldEach h n from mid × BlockHold
 -- the blocks of a text, of which there are so many
 abbrev pub BlocksHold : List ℕ → ℕ → Type 0
 BlocksHold text blocks = (header : Header × List ℕ) × Line IsHeader header_line 1 text (Ok header) × (end : Place) × HoldEach header.0 blocks (2, header.1) end
+
+-- what a verdict promises of its text
+abbrev pub VerdictHolds : List ℕ → Verdict → Type 0
+VerdictHolds text (verdict.Accepted blocks) = BlocksHold text blocks
+VerdictHolds text (verdict.Rejected line why) = Unit {0}
