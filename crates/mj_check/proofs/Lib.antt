@@ -11,3 +11,5 @@ pub mod BoundLaws
 pub mod RowLaws
 pub mod JudgingLaws
 pub mod NumberLaws
+pub mod FaultLaws
+pub mod VerdictLaws

@@ -28,8 +28,10 @@ Limited Within line found result =
     (Within found.0 × (result ≡ Ok found)) ⊎ ((Within found.0 → ⊥) × (result ≡ Err (at_line line reason.Limit)))
 
 -- one judgement and then another, which goes on with what the first found
-abbrev pub Then : {A B : Type 0} → (Result A Rejection → Type 0) → (A → Result B Rejection → Type 0) → Result B Rejection → Type 0
-Then {A = A} First Next result = ((a : A) × First (Ok a) × Next a result) ⊎ ((e : Rejection) × First (Err e) × (result ≡ Err e))
+abbrev pub Then : {A B : Type 0} → (Result A Rejection → Type 0) → (A → Result B Rejection → Type 0)
+    → Result B Rejection → Type 0
+Then {A = A} First Next result =
+    ((a : A) × First (Ok a) × Next a result) ⊎ ((e : Rejection) × First (Err e) × (result ≡ Err e))
 
 -- so many of them, from 0
 abbrev pub Each : {S : Type 0} → (ℕ → S → Result S Rejection → Type 0) → ℕ → S → Result S Rejection → Type 0

@@ -86,7 +86,8 @@ cost_line x = pair_line (codes "cost ") x
 
 -- ---- the dual: its head, and a row of it
 abbrev pub head_line : Bool → ℕ → ℕ → List ℕ
-head_line bounds m nv = (((codes "dual " ++ decimal m) ++ (codes " " ++ decimal nv)) ++ cond bounds (codes " bounds") []) ++ codes "\n"
+head_line bounds m nv =
+    (((codes "dual " ++ decimal m) ++ (codes " " ++ decimal nv)) ++ cond bounds (codes " bounds") []) ++ codes "\n"
 
 -- R, b and the numbers of G
 pub record DualTold : Type 0 where
@@ -100,7 +101,8 @@ bounds_again bounds x = cond bounds (both_bounds x) []
 
 abbrev pub dual_line : Bool → ℕ → ActiveRow → DualTold → List ℕ
 dual_line bounds nv row d =
-    ((((codes "d " ++ decimal row.place) ++ spaced d.r) ++ spaced d.b) ++ bounds_again bounds row.told.bounds) ++ line [] (numbers_text nv d.g)
+    ((((codes "d " ++ decimal row.place) ++ spaced d.r) ++ spaced d.b) ++ bounds_again bounds row.told.bounds)
+    ++ line [] (numbers_text nv d.g)
 
 pub record IsDualTold (nv : ℕ) (d : DualTold) : Type 0 where
   pub r : IsWide d.r
@@ -128,12 +130,15 @@ abbrev pub dual_told : Sides → List (Wide 0) → DualTold
 dual_told s numbers = record { r = s.r.raw; b = s.b.raw; g = wide_at numbers }
 
 abbrev pub IsDualRowAt : Bool → ℕ → ActiveRow → ℕ → List ℕ → Result (DualTold × List ℕ) Rejection → Type 0
-IsDualRowAt bounds nv row at rest = Then (Line (IsDualTold nv) (dual_line bounds nv row) at rest) (Limited (DualWithin nv) at)
+IsDualRowAt bounds nv row at rest =
+    Then (Line (IsDualTold nv) (dual_line bounds nv row) at rest) (Limited (DualWithin nv) at)
 
 -- one after another, of these rows: what is found is appended
-abbrev pub IsNextDualRow : Bool → ℕ → List ActiveRow → ℕ → ℕ → List DualTold × List ℕ → Result (List DualTold × List ℕ) Rejection → Type 0
+abbrev pub IsNextDualRow : Bool → ℕ → List ActiveRow → ℕ → ℕ → List DualTold × List ℕ
+    → Result (List DualTold × List ℕ) Rejection → Type 0
 IsNextDualRow bounds nv rows at k from =
-    Then (IsDualRowAt bounds nv (row_at rows k) (at + k) from.1) (λ found result. result ≡ Ok (from.0 ++ (found.0 ∷ []), found.1))
+    Then (IsDualRowAt bounds nv (row_at rows k) (at + k) from.1) (λ found result.
+    result ≡ Ok (from.0 ++ (found.0 ∷ []), found.1))
 
 abbrev pub AreDualRows : Bool → ℕ → List ActiveRow → ℕ → ℕ → List ℕ → Result (List DualTold × List ℕ) Rejection → Type 0
 AreDualRows bounds nv rows m at rest = Each (IsNextDualRow bounds nv rows at) m ([], rest)
@@ -154,4 +159,5 @@ IsBall x = IfSome x IsBallTold
 -- ---- the last line, after so many blocks
 abbrev pub IsEnd : ℕ → ℕ → End → Type 0
 IsEnd count steps finish.Done = count ≡ steps
-IsEnd count steps (finish.OutOfRange step kind index) = (step ≡ count + 1) × (step ≤ steps) × IsKind kind × IsBetween 1 (2 ^ 127 - 1) index
+IsEnd count steps (finish.OutOfRange step kind index) =
+    (step ≡ count + 1) × (step ≤ steps) × IsKind kind × IsBetween 1 (2 ^ 127 - 1) index

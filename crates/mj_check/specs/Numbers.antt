@@ -43,7 +43,9 @@ abbrev pub reach_fault : Problem → (ℕ → ℤ) → ℕ → Option OutOfRange
 reach_fault p f k = limited kind.Reach (k + 1) reach_limit (reach p f k)
 
 abbrev pub numbers_out : Problem → (ℕ → ℕ) → (ℕ → ℤ) → Option OutOfRange
-numbers_out p place f = or_first (first_to p.nv (reach_fault p f)) (or_first (first_to p.m (cost_fault p place f)) (certificate_fault p place f))
+numbers_out p place f =
+    or_first (first_to p.nv (reach_fault p f))
+    (or_first (first_to p.m (cost_fault p place f)) (certificate_fault p place f))
 
 -- ---- what is printed of a block: the forces, their cost and bound, and the ends of the box
 pub record Printed : Type 0 where
@@ -78,9 +80,11 @@ bound_told_fault p x line = unless (is_same x.bound (bound2 p x.f)) line reason.
 
 abbrev pub printed_fault : Problem → Printed → (ℕ → ℕ) → ℕ → Option Rejection
 printed_fault p x row_line cost_line =
-    or_first (cost_told_fault p x cost_line) (or_first (bound_told_fault p x cost_line) (first_to p.m (box_fault p x row_line)))
+    or_first (cost_told_fault p x cost_line)
+    (or_first (bound_told_fault p x cost_line) (first_to p.m (box_fault p x row_line)))
 
--- the first of all: of a force, of the limits, of the cost, of the bound, of the box. `place` is each row's number in the list of rows, and
+-- the first of all: of a force, of the limits, of the cost, of the bound, of the box. `place` is each row's number in
+-- the list of rows, and
 -- row n stands on the line first + n
 abbrev pub row_line : ℕ → (ℕ → ℕ) → ℕ → ℕ
 row_line first place i = first + place i
@@ -94,7 +98,8 @@ numbers_fault p place x first cost_line =
     or_first (first_to p.m (force_fault p x.f (row_line first place)))
     (or_first (limits_fault p place x.f cost_line) (printed_fault p x (row_line first place) cost_line))
 
--- ---- of the lists that a block's lines tell: the problem that its dual states, the places of its rows, and what is printed
+-- ---- of the lists that a block's lines tell: the problem that its dual states, the places of its rows, and what is
+-- printed
 abbrev pub no_dual : DualTold
 no_dual = record { r = pos 0; b = pos 0; g = λ k. pos 0 }
 
@@ -102,7 +107,8 @@ abbrev pub dual_at : List DualTold → ℕ → DualTold
 dual_at duals i = slice_index_or duals i no_dual
 
 -- row i of it
-pub record IsRowOf (nv : ℕ) (row : ActiveRow) (dual : DualTold) (p : Problem) (places : ℕ → ℕ) (x : Printed) (i : ℕ) : Type 0 where
+pub record IsRowOf (nv : ℕ) (row : ActiveRow) (dual : DualTold) (p : Problem) (places : ℕ → ℕ) (x : Printed) (i : ℕ)
+    : Type 0 where
   pub g : (k : ℕ) → k < nv → p.g i k ≡ dual.g k
   pub r : p.r i ≡ dual.r
   pub b : p.b i ≡ dual.b
@@ -113,7 +119,8 @@ pub record IsRowOf (nv : ℕ) (row : ActiveRow) (dual : DualTold) (p : Problem) 
   pub lo : x.lo i ≡ row.told.lo.raw
   pub hi : x.hi i ≡ row.told.hi.raw
 
-pub record AreNumbersOf (width : ℕ) (rows : List ActiveRow) (duals : List DualTold) (told : Pair) (p : Problem) (place : ℕ → ℕ) (x : Printed) : Type 0 where
+pub record AreNumbersOf (width : ℕ) (rows : List ActiveRow) (duals : List DualTold) (told : Pair)
+    (p : Problem) (place : ℕ → ℕ) (x : Printed) : Type 0 where
   pub m : p.m ≡ length rows
   pub nv : p.nv ≡ width
   pub cost : x.cost ≡ told.first.raw
@@ -123,7 +130,8 @@ pub record AreNumbersOf (width : ℕ) (rows : List ActiveRow) (duals : List Dual
 -- they are judged
 abbrev pub IsJudgedBy : ℕ → List ActiveRow → List DualTold → Pair → ℕ → ℕ → Result (Unit {0}) Rejection → Type 0
 IsJudgedBy nv rows duals told first cost_line result =
-    (p : Problem) × (place : ℕ → ℕ) × (x : Printed) × AreNumbersOf nv rows duals told p place x × (refusal_of result ≡ numbers_fault p place x first cost_line)
+    (p : Problem) × (place : ℕ → ℕ) × (x : Printed) × AreNumbersOf nv rows duals told p place x
+    × (refusal_of result ≡ numbers_fault p place x first cost_line)
 
 -- ---- what accepted numbers promise
 pub record Promise (p : Problem) (x : Printed) : Type 0 where

@@ -56,7 +56,8 @@ rest_line bounds (Some x) = told_line bounds x
 
 -- row i, from 1
 abbrev pub row_line : Bool → ℕ → RowTold → List ℕ
-row_line bounds i x = ((((codes "row " ++ decimal i) ++ codes " ") ++ source_line x.source) ++ rest_line bounds x.told) ++ codes "\n"
+row_line bounds i x =
+    ((((codes "row " ++ decimal i) ++ codes " ") ++ source_line x.source) ++ rest_line bounds x.told) ++ codes "\n"
 
 -- what a row line tells
 pub record MayBeRow (bounds : Bool) (x : RowTold) : Type 0 where
@@ -92,11 +93,14 @@ with_row place None rows = rows
 with_row place (Some x) rows = rows ++ (record { place = place; told = x } ∷ [])
 
 abbrev pub IsRowAt : Bool → Counts → ℕ → ℕ → ℕ → List ℕ → Result (RowTold × List ℕ) Rejection → Type 0
-IsRowAt bounds c i active at rest = Then (Line (IsRow bounds c i active) (row_line bounds (i + 1)) at rest) (Limited RowWithin at)
+IsRowAt bounds c i active at rest =
+    Then (Line (IsRow bounds c i active) (row_line bounds (i + 1)) at rest) (Limited RowWithin at)
 
-abbrev pub IsNextRow : Bool → Counts → ℕ → ℕ → List ActiveRow × List ℕ → Result (List ActiveRow × List ℕ) Rejection → Type 0
+abbrev pub IsNextRow : Bool → Counts → ℕ → ℕ → List ActiveRow × List ℕ
+    → Result (List ActiveRow × List ℕ) Rejection → Type 0
 IsNextRow bounds c at i from =
-    Then (IsRowAt bounds c i (length from.0) (at + i) from.1) (λ found result. result ≡ Ok (with_row (i + 1) found.0.told from.0, found.1))
+    Then (IsRowAt bounds c i (length from.0) (at + i) from.1) (λ found result.
+    result ≡ Ok (with_row (i + 1) found.0.told from.0, found.1))
 
 abbrev pub AreRows : Bool → Counts → ℕ → List ℕ → Result (List ActiveRow × List ℕ) Rejection → Type 0
 AreRows bounds c at rest = Each (IsNextRow bounds c at) c.rows ([], rest)
@@ -113,8 +117,16 @@ pub record AreKept (bounds : Bool) (n : ℕ) (rows : List ActiveRow) : Type 0 wh
   pub each : All (IsKept bounds n) rows
 
 -- a row of the list
+abbrev pub no_told : Told
+no_told = record {
+  f = record { raw = pos 0 };
+  lo = record { raw = pos 0 };
+  hi = record { raw = pos 0 };
+  bounds = record { low = None; high = None };
+}
+
 abbrev pub no_row : ActiveRow
-no_row = record { place = 0; told = record { f = record { raw = pos 0 }; lo = record { raw = pos 0 }; hi = record { raw = pos 0 }; bounds = record { low = None; high = None } } }
+no_row = record { place = 0; told = no_told }
 
 abbrev pub row_at : List ActiveRow → ℕ → ActiveRow
 row_at rows i = slice_index_or rows i no_row

@@ -70,10 +70,11 @@ pub record IsSource (bounds : Bool) (s : SourceTold) : Type 0 where
 -- ---- kinds: those of a step, and none of the inverse dynamics
 abbrev pub all_kinds : List Quantity
 all_kinds =
-    kind.QuatNorm ∷ kind.FramePos ∷ kind.Arm ∷ kind.GeomNorm ∷ kind.Inertia ∷ kind.Column ∷ kind.Momentum ∷ kind.Mass ∷ kind.DofMotion ∷
-    kind.BodyMotion ∷ kind.Wrench ∷ kind.Bias ∷ kind.TendonLength ∷ kind.TendonForce ∷ kind.Applied ∷ kind.Pivot ∷ kind.Lower ∷
-    kind.Accel ∷ kind.Rows ∷ kind.Jacobian ∷ kind.Violation ∷ kind.Reduced ∷ kind.Regularizer ∷ kind.Reference ∷ kind.DualVector ∷
-    kind.Force ∷ kind.Reach ∷ kind.Cost ∷ kind.Shortfall ∷ kind.Box ∷ kind.Load ∷ kind.Velocity ∷ kind.Position ∷ kind.ErrorBound ∷ []
+    kind.QuatNorm ∷ kind.FramePos ∷ kind.Arm ∷ kind.GeomNorm ∷ kind.Inertia ∷ kind.Column ∷ kind.Momentum ∷
+    kind.Mass ∷ kind.DofMotion ∷ kind.BodyMotion ∷ kind.Wrench ∷ kind.Bias ∷ kind.TendonLength ∷ kind.TendonForce ∷
+    kind.Applied ∷ kind.Pivot ∷ kind.Lower ∷ kind.Accel ∷ kind.Rows ∷ kind.Jacobian ∷ kind.Violation ∷
+    kind.Reduced ∷ kind.Regularizer ∷ kind.Reference ∷ kind.DualVector ∷ kind.Force ∷ kind.Reach ∷ kind.Cost ∷
+    kind.Shortfall ∷ kind.Box ∷ kind.Load ∷ kind.Velocity ∷ kind.Position ∷ kind.ErrorBound ∷ []
 
 abbrev pub kind_named : List ℕ → Option Quantity
 kind_named text = find (λ k. bytes_eq text (quantity_name k)) all_kinds

@@ -1,5 +1,5 @@
 -- What a dump is judged to be.
-use Rattle.std.specs.Prelude.{◌≡◌, ◌⊎◌, ℕ, ◌+◌, ◌<◌, ◌≤◌, ◌==◌, Bool, List, [], ◌++◌, codes, length, Result, Ok, Err}
+use Rattle.std.specs.Prelude.{◌≡◌, ◌⊎◌, ℕ, zero, suc, ◌+◌, ◌<◌, ◌≤◌, ◌==◌, Bool, List, [], ◌++◌, codes, length, Result, Ok, Err}
 use Rattle.mj_types.specs.declared.verdict.Verdict.{Verdict}
 use Rattle.mj_types.specs.declared.verdict.Verdict.TheVariants as verdict
 use Rattle.mj_types.specs.declared.verdict.Reason.TheVariants as reason
@@ -10,6 +10,7 @@ use Rattle.mj_reading.specs.Reading.{Any}
 use Rattle.mj_check.specs.declared.rejection.Rejection.{Rejection}
 use Rattle.mj_check.specs.declared.header.Header.{Header}
 use Rattle.mj_check.specs.declared.numbers.Pair.{Pair}
+use Rattle.mj_check.specs.declared.counts.Counts.{Counts}
 use Rattle.mj_check.specs.declared.rows.ActiveRow.{ActiveRow}
 use Rattle.mj_check.specs.Judging.{at_line, Line, Passes, Then, Each}
 use Rattle.mj_check.specs.Lines.{IsHeader, header_line, step_line, IsMotion, IsStop, IsCost, cost_line, head_line, DualTold, AreDualRows, IsBall, ball_line, IsEnd}
@@ -102,3 +103,29 @@ IsVerdict text answer =
 -- its lines tell rows, their dual and a cost, and whatever problem and numbers these are, they keep the promise
 abbrev pub KeepsPromise : ℕ → List ActiveRow → List DualTold → Pair → Type 0
 KeepsPromise nv rows duals told = (p : Problem) (place : ℕ → ℕ) (x : Printed) → AreNumbersOf nv rows duals told p place x → Promise p x
+
+-- block k of a text stands between two places, and what its lines tell keeps the promise
+abbrev pub BlockHolds : Header → ℕ → Place → Place → Type 0
+BlockHolds h k from to =
+    (motion : List ℕ) × IsMotion h k from.0 from.1 (Ok motion)
+    × (counts : Counts × List ℕ) × Line AreCounts counts_line (from.0 + 6) motion (Ok counts)
+    × (rows : List ActiveRow × List ℕ) × AreRows (tells_bounds h) counts.0 (from.0 + 7) counts.1 (Ok rows)
+    × (stop : List ℕ) × Passes (IsStop (length rows.0)) stop_text (from.0 + 7 + counts.0.rows) rows.1 (Ok stop)
+    × (cost : Pair × List ℕ) × Line (IsCost (length rows.0)) cost_line (from.0 + 7 + counts.0.rows + 1) stop (Ok cost)
+    × (dual : List DualTold × List ℕ) × IsDual (tells_bounds h) h.nv rows.0 (from.0 + 7 + counts.0.rows + 2) cost.1 (Ok dual)
+    × IsBallAt (from.0 + 7 + counts.0.rows + 3 + length rows.0) dual.1 (Ok to)
+    × KeepsPromise h.nv rows.0 dual.0 cost.0
+
+-- the first n blocks
+abbrev pub HoldEach : Header → ℕ → Place → Place → Type 0
+HoldEach h zero from to = to ≡ from
+HoldEach h (suc n) from to = (mid : Place) × HoldEach h n from mid × BlockHolds h (n + 1) mid to
+
+-- the blocks of a text, of which there are so many
+abbrev pub BlocksHold : List ℕ → ℕ → Type 0
+BlocksHold text blocks = (header : Header × List ℕ) × Line IsHeader header_line 1 text (Ok header) × (end : Place) × HoldEach header.0 blocks (2, header.1) end
+
+-- what a verdict promises of its text
+abbrev pub VerdictHolds : List ℕ → Verdict → Type 0
+VerdictHolds text (verdict.Accepted blocks) = BlocksHold text blocks
+VerdictHolds text (verdict.Rejected line why) = Unit {0}

@@ -167,7 +167,8 @@ fn judge_text(alloc: Global, bytes: &[u8]) -> Result<Verdict, NoMemory>
 /// rejected at the first line that isn't in form, is past a limit, or whose force, cost, bound or box
 /// isn't the one that the block's dual gives. Takes memory for one block, once.
 pub fn check(alloc: Global, bytes: &[u8]) -> Result<Verdict, NoMemory>
-    ensures { IfOk result (λ v. spec.IsVerdict bytes.now v) }
+    ensures verdict { IfOk result (λ v. spec.IsVerdict bytes.now v) }
+    ensures holds { IfOk result (λ v. spec.VerdictHolds bytes.now v) }
 {
     if bytes.len() > TEXT_LIMIT {
         return Ok(Verdict::Rejected {
