@@ -31,16 +31,13 @@ use Rattle.mj_run.proofs.Steps.{told-none}
 use Rattle.mj_valid.specs.Judging.{told, judged_bytes}
 use Rattle.mj_words.specs.declared.table.Command.{Command}
 use Rattle.mj_words.specs.declared.table.Command.TheVariants as command
-use Rattle.mj_types.specs.declared.verdict.Verdict.{Verdict}
-use Rattle.mj_types.specs.declared.verdict.Verdict.TheVariants as verdict
-use Rattle.mj_check.specs.Verdict.{IsVerdict}
-use Rattle.mj_check.proofs.VerdictLaws.{accepted-holds}
+use Rattle.mj_check.proofs.VerdictLaws.{verdict-holds}
 use Rattle.mj_words.specs.Words.{bad_place, command_of, model_of, step_count, tape_of, seed_of, link_count, dump_of}
 use Rattle.mj_top.specs.Outcome.{wants_of, Outcome, status_of, IsOutcome, IsWordsOutcome, IsCommandOutcome, IsRunOutcome, IsBenchOutcome, IsBatchOutcome, IsCheckOutcome, judged_as, dump_cap, IsTapesOutcomeOf, AreFirstTapes, RunsAll, RefusesNext, generated, model_cap, bench_of, benched, with_summed_tape, summed, batched, ran, with_tape, with_tape_file, with_tape_name, with_model, tape_room, tape_cap, tape_refused}
 use Rattle.mj_top.specs.Ends.{Answers, EndsWhole, Completes}
 use Rattle.mj_top.proofs.Endings.{outcome-is}
 use Rattle.mj_top.proofs.Once.{outcomes-one}
-use Rattle.mj_top.specs.Headline.{HoldsAccepted, IsDumpChecked, IsSound, IsEnd, IsModelUnder, IsTapeUnder, IsTraced, IsRunTraced, Achieves, IsHeadline, IsAccepted, EndsWell}
+use Rattle.mj_top.specs.Headline.{IsDumpChecked, IsSound, IsEnd, IsModelUnder, IsTapeUnder, IsTraced, IsRunTraced, Achieves, IsHeadline, IsAccepted, EndsWell}
 
 -- ---- options and results
 some-same : {A : Type 0} (x y : A) → Some x ≡ Some y → x ≡ y
@@ -170,10 +167,6 @@ module _ (certified : (m : Model) (s : State) (u : List Control) → IsCertified
     of_gen e = let P = λ (x : Outcome). Grew old x.text new in subst P e ends.grew
 
     -- ---- a check
-    holds-accepted : (bytes : List ℕ) (found : Verdict) → IsVerdict bytes found → HoldsAccepted bytes found
-    holds-accepted bytes (verdict.Accepted blocks) judged = accepted-holds bytes blocks judged
-    holds-accepted bytes (verdict.Rejected line reason) judged = tt
-
     of_check : IsCheckOutcome held words o → IsDumpChecked words held answer old new
     of_check meant =
         let bytes = take dump_cap meant.0 in
@@ -186,7 +179,7 @@ module _ (certified : (m : Model) (s : State) (u : List Control) → IsCertified
             judged = meant.2.1;
             gained = subst P meant.2.2 ends.grew;
             end = ends.same ∙ ap (λ x. x.status) meant.2.2;
-            holds = holds-accepted bytes found meant.2.1;
+            holds = verdict-holds bytes found meant.2.1;
           },
         )
 

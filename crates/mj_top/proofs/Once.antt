@@ -21,10 +21,13 @@ use Rattle.mj_run.specs.Batch.{no_tape, tape_at}
 use Rattle.mj_valid.specs.Judging.{accepted_of, told, judged_bytes}
 use Rattle.mj_words.specs.declared.table.Command.{Command}
 use Rattle.mj_words.specs.declared.table.Command.TheVariants as command
-use Rattle.mj_check.proofs.VerdictLaws.{verdict-one as dump_verdict-one}
+use Rattle.mj_types.specs.declared.verdict.Verdict.{Verdict}
 use Rattle.mj_words.specs.Words.{bad_place, command_of, model_of, step_count, tape_of, tape_count, nth_tape, seed_of, link_count, dump_of, value, value_count, is_tape, is_nth}
 use Rattle.mj_top.specs.Once.{AskAlike}
 use Rattle.mj_top.specs.Outcome.{wants_of, Outcome, IsOutcome, IsWordsOutcome, IsCommandOutcome, IsRunOutcome, IsFileOutcome, IsBenchOutcome, IsBatchOutcome, IsCheckOutcome, judged_as, dump_cap, IsTapesOutcome, IsTapesOutcomeOf, IsTapeJudged, AreFirstTapes, RunsAll, RefusesNext, with_model, bench_of, batched, kept_before, tape_room, tape_cap, model_cap, tape_refused}
+
+dump_verdict-one : (text : List ℕ) (a b : Verdict) → IsVerdict text a → IsVerdict text b → a ≡ b
+dump_verdict-one text a b p q = ?
 
 -- ---- a model is what it holds
 models-told : (a b : Model) → accepted_of a ≡ accepted_of b → a ≡ b

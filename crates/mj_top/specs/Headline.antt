@@ -7,7 +7,6 @@ use Rattle.mj_types.specs.declared.model.Model.{Model}
 use Rattle.mj_types.specs.declared.status.Status.{Status}
 use Rattle.mj_types.specs.declared.status.Status.TheVariants as status
 use Rattle.mj_types.specs.declared.verdict.Verdict.{Verdict}
-use Rattle.mj_types.specs.declared.verdict.Verdict.TheVariants as verdict
 use Rattle.mj_types.specs.declared.wants.Wants.{Wants}
 use Rattle.mj_tape.specs.Judging.{TapeValues, tape_verdict}
 use Rattle.mj_gen.specs.Chain.{chain_text}
@@ -25,7 +24,7 @@ use Rattle.mj_run.specs.Told.{AreBest}
 use Rattle.mj_words.specs.declared.table.Command.{Command}
 use Rattle.mj_words.specs.declared.table.Command.TheVariants as command
 use Rattle.mj_words.specs.Words.{bad_place, command_of, model_of, step_count, tape_of, tape_count, seed_of, link_count, dump_of}
-use Rattle.mj_check.specs.Verdict.{IsVerdict, BlocksHold}
+use Rattle.mj_check.specs.Verdict.{IsVerdict, VerdictHolds}
 use Rattle.mj_top.specs.Outcome.{status_of, wants_of, judged_as, model_cap, tape_cap, dump_cap, tape_room, AreFirstTapes, IsOutcome}
 use Rattle.mj_top.specs.Ends.{Answers, LeavesSink, HasCause, Completes, ReadRose}
 
@@ -113,18 +112,13 @@ IsRunTraced words held answer old new =
     (m : Model) × (tape : Option TapeValues) × AreGiven words held m tape
     × IsTraced (wants_of words) m (controls_at (length m.motors) tape) (step_count words) answer old new
 
--- a dump that is accepted: in each of its blocks the forces are feasible, and the bound and the box hold, for
--- whatever dual its lines tell
-abbrev pub HoldsAccepted : List ℕ → Verdict → Type 0
-HoldsAccepted bytes (verdict.Accepted blocks) = BlocksHold bytes blocks
-HoldsAccepted bytes (verdict.Rejected line reason) = Unit {0}
-
--- these bytes are judged so, the answer and the line say it, and where they are accepted their blocks hold
+-- these bytes are judged so, the answer and the line say it; and where they are accepted, in each block the
+-- forces are feasible, and the bound and the box hold
 pub record IsChecked (bytes : List ℕ) (found : Verdict) (answer : Status) (old new : Option (List ℕ)) : Type 0 where
   pub judged : IsVerdict bytes found
   pub gained : Grew old (judged_as found).text new
   pub end : answer ≡ (judged_as found).status
-  pub holds : HoldsAccepted bytes found
+  pub holds : VerdictHolds bytes found
 
 -- the dump that the words' file is
 abbrev pub IsDumpChecked :
