@@ -12,4 +12,6 @@ pub mod RowLaws
 pub mod JudgingLaws
 pub mod NumberLaws
 pub mod FaultLaws
+pub mod TellsLaws
+pub mod OneLaws
 pub mod VerdictLaws

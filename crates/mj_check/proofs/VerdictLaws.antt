@@ -14,9 +14,10 @@ use Rattle.mj_check.specs.Judging.{Then, Each}
 use Rattle.mj_check.specs.Lines.{DualTold, DualWithin, AreDualRows, IsNextDualRow}
 use Rattle.mj_check.specs.Numbers.{AreNumbersOf, IsJudgedBy, Printed, Promise, dual_at, no_dual, numbers_fault}
 use Rattle.mj_check.specs.Rows.{row_at}
-use Rattle.mj_check.specs.Verdict.{Place, IsDual, IsBlock, BlockHolds, HoldEach, BlocksHold, IsJudged, IsVerdict, VerdictHolds, KeepsPromise, tells_bounds}
+use Rattle.mj_check.specs.Verdict.{Place, IsDual, IsBlock, BlockHolds, HoldEach, BlocksHold, IsJudged, IsVerdict, VerdictHolds, verdict_of, KeepsPromise, tells_bounds}
 use Rattle.mj_check.proofs.FaultLaws.{HaveSameNumbers, fault-same}
 use Rattle.mj_check.proofs.NumberLaws.{accepted_numbers_hold}
+use Rattle.mj_check.proofs.OneLaws.{judged-same}
 
 -- ---- two readings of the numbers that the same lines tell
 pub same-numbers : (nv : ℕ) (rows : List ActiveRow) (duals : List DualTold) (told : Pair) (p q : Problem) (place at : ℕ → ℕ) (x y : Printed) → AreNumbersOf nv rows duals told p place x → AreNumbersOf nv rows duals told q at y → HaveSameNumbers p q place at x y
@@ -114,3 +115,10 @@ accepted-holds text blocks (inr (few, (Err r, j, e))) = absurd cc
 pub verdict-holds : (text : List ℕ) (answer : Verdict) → IsVerdict text answer → VerdictHolds text answer
 verdict-holds text (verdict.Accepted blocks) is = accepted-holds text blocks is
 verdict-holds text (verdict.Rejected line why) is = tt
+
+-- ---- a text has one verdict
+pub verdict-one : (text : List ℕ) (a b : Verdict) → IsVerdict text a → IsVerdict text b → a ≡ b
+verdict-one text a b (inl (l, e)) (inl (m, f)) = e ∙ sym f
+verdict-one text a b (inl (l, e)) (inr (m, k)) = absurd (omega (arith, l, m))
+verdict-one text a b (inr (l, j)) (inl (m, f)) = absurd (omega (arith, l, m))
+verdict-one text a b (inr (l, (j, p, e))) (inr (m, (k, q, f))) = e ∙ ap verdict_of (judged-same text j k p q) ∙ sym f
