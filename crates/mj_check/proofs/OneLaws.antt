@@ -1,12 +1,10 @@
 -- A text has one verdict.
-use Rattle.std.proofs.Common.{◌≡◌, ◌⊎◌, ℕ, zero, suc, ◌+◌, ◌<◌, ◌≤◌, ◌^◌, ℤ, pos, ◌≤ℤ◌, unsigned_abs, codes, IfSome, Bool, Option, Some, None, List, [], ◌∷◌, ◌++◌, length, Result, Ok, Err, refl, sym, ap, ap₂, ◌∙◌, subst, arith, inl, inr}
+use Rattle.std.proofs.Common.{◌≡◌, ◌⊎◌, ℕ, zero, suc, ◌+◌, ◌<◌, ◌≤◌, ◌^◌, ℤ, pos, ◌≤ℤ◌, unsigned_abs, codes, IfSome, Bool, List, [], ◌∷◌, ◌++◌, length, Result, Ok, Err, refl, sym, ap, ◌∙◌, subst, arith, inl, inr}
 use Rattle.std.specs.List.{AllZip}
 use Rattle.std.proofs.lemmas.Bool.{cases_eq}
 use Rattle.std.proofs.lemmas.List.Elements.{AllZip-push}
 use Rattle.fx_whole.specs.First.{refusal_of}
 use Rattle.mj_optimum.specs.Problem.{Problem}
-use Rattle.mj_types.specs.declared.verdict.Verdict.{Verdict}
-use Rattle.mj_types.specs.declared.verdict.Verdict.TheVariants as verdict
 use Rattle.mj_types.specs.declared.verdict.Reason.TheVariants as reason
 use Rattle.mj_trace.specs.Block.{stop_text}
 use Rattle.mj_trace.specs.Trace.{end_text}
@@ -15,14 +13,13 @@ use Rattle.mj_check.specs.declared.rejection.Rejection.{Rejection}
 use Rattle.mj_check.specs.declared.header.Header.{Header}
 use Rattle.mj_check.specs.declared.numbers.Pair.{Pair}
 use Rattle.mj_check.specs.declared.counts.Counts.{Counts}
-use Rattle.mj_check.specs.declared.rows.RowTold.{RowTold}
 use Rattle.mj_check.specs.declared.rows.ActiveRow.{ActiveRow}
 use Rattle.mj_check.specs.Alike.{Alike}
 use Rattle.mj_check.specs.Judging.{at_line, Line, Passes, Limited, Then, Each}
 use Rattle.mj_check.specs.Lines.{IsHeader, header_line, step_line, Agree, AreWide, IsPair, numbers_line, residual_line, pair_line, IsMotion, IsStop, IsCost, cost_line, head_line, DualTold, IsDualTold, SameDualTold, DualWithin, dual_line, IsDualRowAt, IsNextDualRow, AreDualRows, IsBall, ball_line, IsEnd}
-use Rattle.mj_check.specs.Numbers.{AreNumbersOf, IsJudgedBy, Printed, dual_at, numbers_fault}
-use Rattle.mj_check.specs.Rows.{AreCounts, counts_line, MayBeRow, IsRow, row_line, RowWithin, ToldWithin, row_at, with_row, IsRowAt, IsNextRow, AreRows}
-use Rattle.mj_check.specs.Verdict.{Place, BeginsStep, IsDual, BeginsBall, IsBallAt, IsClosed, IsBlock, AreBlocks, EndsText, IsEnding, IsJudgedRest, IsJudged, text_limit, verdict_of, IsVerdict, tells_bounds}
+use Rattle.mj_check.specs.Numbers.{AreNumbersOf, IsJudgedBy, Printed, dual_at}
+use Rattle.mj_check.specs.Rows.{AreCounts, counts_line, IsRow, row_line, RowWithin, ToldWithin, row_at, with_row, IsRowAt, IsNextRow, AreRows}
+use Rattle.mj_check.specs.Verdict.{Place, BeginsStep, IsDual, IsBallAt, IsClosed, IsBlock, AreBlocks, EndsText, IsEnding, IsJudgedRest, IsJudged, tells_bounds}
 use Rattle.mj_check.proofs.FaultLaws.{HaveSameNumbers, fault-same}
 use Rattle.mj_check.proofs.TellsLaws.{Tells, tells-word, tells-as, tells-header, tells-numbers_line, tells-residual, tells-pair, tells-cost, tells-counts, SameTold, tells-row, tells-dual, tells-stop, tells-ball, tells-end}
 
@@ -172,7 +169,12 @@ zip-at nv (x ∷ xs) [] k z = absurd z
 zip-at nv (x ∷ xs) (y ∷ ys) zero z = z.0
 zip-at nv (x ∷ xs) (y ∷ ys) (suc k) z = zip-at nv xs ys k z.1
 
-numbers-over : (nv : ℕ) (rows : List ActiveRow) (c d : List DualTold) (told : Pair) (p q : Problem) (place at : ℕ → ℕ) (x y : Printed) → AllZip (SameDualTold nv) c d → AreNumbersOf nv rows c told p place x → AreNumbersOf nv rows d told q at y → HaveSameNumbers p q place at x y
+pub zip-same : (nv : ℕ) (c : List DualTold) → AllZip (SameDualTold nv) c c
+zip-same nv [] = tt
+zip-same nv (x ∷ xs) = (record { r = refl; b = refl; g = λ k l. refl }, zip-same nv xs)
+
+-- two readings of the numbers that the same lines tell
+pub numbers-over : (nv : ℕ) (rows : List ActiveRow) (c d : List DualTold) (told : Pair) (p q : Problem) (place at : ℕ → ℕ) (x y : Printed) → AllZip (SameDualTold nv) c d → AreNumbersOf nv rows c told p place x → AreNumbersOf nv rows d told q at y → HaveSameNumbers p q place at x y
 numbers-over nv rows c d told p q place at x y z a b =
     let l : (i : ℕ) → i < p.m → i < length rows = λ i h. omega (arith, a.m) in
     let w : (k : ℕ) → k < p.nv → k < nv = λ k h. omega (arith, a.nv) in

@@ -1,5 +1,5 @@
 -- A line's text tells what it was made from: two of them, with what is behind them, are the same only for the same thing.
-use Rattle.std.proofs.Common.{◌≡◌, ℕ, zero, suc, ◌+◌, ◌-◌, ◌^◌, ◌<◌, ◌≤◌, ℤ, pos, negsuc, Bool, true, false, ◌&&◌, List, [], ◌∷◌, ◌++◌, Option, Some, None, IfSome, length, take, drop, get_or, refl, sym, ap, ap₂, ◌∙◌, subst, append_assoc, arith, add-one, decimal, codes, cond, inl, inr}
+use Rattle.std.proofs.Common.{◌≡◌, ℕ, zero, suc, ◌+◌, ◌-◌, ◌^◌, ◌<◌, ℤ, pos, negsuc, Bool, true, false, ◌&&◌, List, [], ◌∷◌, ◌++◌, Option, Some, None, IfSome, length, take, drop, get_or, refl, sym, ap, ◌∙◌, subst, append_assoc, arith, add-one, decimal, codes, inl, inr}
 use Rattle.std.proofs.lemmas.Bool.{cases_eq}
 use Rattle.std.specs.Fmt.{signed_decimal}
 use Rattle.std.specs.List.{list_all}
@@ -8,7 +8,7 @@ use Rattle.std.proofs.Math.Seq.{take-append_seam, drop-append_seam}
 use Rattle.fx_whole.proofs.JoinedLaws.{joined-none, joined-more}
 use Rattle.fx_num.specs.declared.number.Wide.{Wide}
 use Rattle.fx_text.specs.Raw.{IsWide}
-use Rattle.fx_text.proofs.DigitLaws.{AreDigits, decimal-digits, value-decimal, decimal-some}
+use Rattle.fx_text.proofs.DigitLaws.{AreDigits, decimal-digits, value-decimal}
 use Rattle.mj_optimum.specs.declared.stop.Stop.{Stop}
 use Rattle.mj_optimum.specs.declared.stop.Stop.TheVariants as stop
 use Rattle.mj_types.specs.declared.range.End.{End}
@@ -40,7 +40,7 @@ use Rattle.mj_check.proofs.SourceLaws.{source-told}
 use Rattle.mj_check.proofs.BoundLaws.{bound-told, bound-before, bounds-before, same-bounds, untold-only}
 use Rattle.mj_check.proofs.RowLaws.{same-told, rest-before, idle-only}
 use Rattle.mj_check.proofs.BallLaws as ball
-use Rattle.mj_check.proofs.EndLaws.{done-text, early-text}
+use Rattle.mj_check.proofs.EndLaws.{early-text}
 use Rattle.mj_check.proofs.TokenLaws.{kind-letters}
 
 -- two texts of a piece, with what is behind them, are the same only for the same thing
@@ -290,7 +290,7 @@ tells-source bounds =
     record {
       one = λ v w b c f g x y e.
           let t = (tells-after (λ a d. IsEdge a.0.0 d) (begun-whole q) (λ a h. tells-edge a.0.0) edge-behind).one (source-parts v) (source-parts w) b c ((((f.name, tt), f.number)), f.edge) ((((g.name, tt), g.number)), g.edge) x y
-                  (ap (λ z. z ++ b) (sym (source-told v.name v.number v.edge f.edge)) ∙ e ∙ ap (λ z. z ++ c) (source-told w.name w.number w.edge g.edge)) in
+          (ap (λ z. z ++ b) (sym (source-told v.name v.number v.edge f.edge)) ∙ e ∙ ap (λ z. z ++ c) (source-told w.name w.number w.edge g.edge)) in
           (t.0, tt);
     }
 
