@@ -1,7 +1,6 @@
 -- The fault of a block's numbers is the same for whatever problem, places and numbers its lines tell.
-use Rattle.std.proofs.Common.{◌≡◌, ℕ, suc, ◌+◌, ◌^◌, ◌<◌, ◌≤◌, ℤ, pos, ◌+ℤ◌, ◌-ℤ◌, ◌*ℤ◌, neg_ℤ, unsigned_abs, ◌&&◌, is_none, Option, Some, None, List, length, refl, sym, ap, ap₂, ◌∙◌, arith}
-use Rattle.fx_whole.specs.First.{or_first, first_to}
-use Rattle.fx_whole.specs.Sums.{sum_to}
+use Rattle.std.proofs.Common.{◌≡◌, ℕ, suc, ◌+◌, ◌^◌, ◌<◌, ◌≤◌, ℤ, pos, ◌+ℤ◌, ◌-ℤ◌, ◌*ℤ◌, neg_ℤ, unsigned_abs, ◌&&◌, is_none, Option, ap, ap₂, ◌∙◌, arith}
+use Rattle.fx_whole.specs.First.{or_first}
 use Rattle.fx_whole.proofs.SumLaws.{sum_to-ext, sum_ℕ_to-ext}
 use Rattle.mj_optimum.specs.Problem.{Problem}
 use Rattle.mj_optimum.specs.Cost.{reach, cost, gradient}
@@ -13,17 +12,12 @@ use Rattle.mj_optimum.specs.Agreement.{HaveSameRows}
 use Rattle.mj_optimum.proofs.SameCounts.{first-same}
 use Rattle.mj_optimum.proofs.SameSweeps.{cost-same, reach-same}
 use Rattle.mj_optimum.proofs.SameCertificates.{bound-same, low-same, high-same, rise_up-same, rise_down-same, weight_to-same, pull_to-same, shortfall_to-same}
-use Rattle.mj_types.specs.declared.range.OutOfRange.{OutOfRange}
 use Rattle.mj_types.specs.declared.range.Quantity.TheVariants as kind
 use Rattle.mj_types.specs.declared.verdict.Reason.TheVariants as reason
 use Rattle.mj_types.specs.Ranges.{limited}
-use Rattle.mj_cert.specs.Certificate.{shortfall_fault, box_fault as cert_box_fault, certificate_fault}
+use Rattle.mj_cert.specs.Certificate.{shortfall_fault, box_fault as cert_box_fault}
 use Rattle.mj_cost.specs.Costs.{cost_fault}
-use Rattle.mj_check.specs.declared.rejection.Rejection.{Rejection}
-use Rattle.mj_check.specs.declared.numbers.Pair.{Pair}
-use Rattle.mj_check.specs.declared.rows.ActiveRow.{ActiveRow}
-use Rattle.mj_check.specs.Lines.{DualTold}
-use Rattle.mj_check.specs.Numbers.{unless, is_above, is_below, is_feasible, is_same, is_boxed, reach_fault, numbers_out, limits_fault, cost_told_fault, bound_told_fault, printed_fault, Printed, force_fault, box_fault, numbers_fault, row_line}
+use Rattle.mj_check.specs.Numbers.{unless, is_above, is_below, is_feasible, is_same, is_boxed, reach_fault, numbers_out, Printed, force_fault, box_fault, numbers_fault, row_line}
 
 -- ---- of forces that agree in a problem's rows
 module _ (p : Problem) (f g : ℕ → ℤ) (h : (i : ℕ) → i < p.m → f i ≡ g i) where

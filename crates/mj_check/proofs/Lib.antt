@@ -1,3 +1,6 @@
+-- The lemmas of this crate, by file. For the crate above, VerdictLaws:
+--   accepted-holds, verdict-holds      what the lines of an accepted text's blocks tell keeps the promise
+--   verdict-one                        a text has one verdict
 pub mod StopLaws
 pub mod DualLaws
 pub mod TextLaws
@@ -12,4 +15,6 @@ pub mod RowLaws
 pub mod JudgingLaws
 pub mod NumberLaws
 pub mod FaultLaws
+pub mod TellsLaws
+pub mod OneLaws
 pub mod VerdictLaws

@@ -1,44 +1,21 @@
 -- What the verdict of a text promises.
-use Rattle.std.proofs.Common.{◌≡◌, ℕ, zero, suc, ◌+◌, ◌<◌, ℤ, pos, ◌<ℤ◌, ◌≤ℤ◌, Bool, Option, Some, None, List, [], ◌∷◌, ◌++◌, length, Result, Ok, Err, refl, sym, ap, ◌∙◌, subst, arith, inl, inr, length-append}
+use Rattle.std.proofs.Common.{◌≡◌, ℕ, zero, suc, ◌+◌, ◌<◌, pos, ◌≤ℤ◌, Bool, None, List, [], ◌∷◌, ◌++◌, length, Ok, Err, refl, sym, ap, ◌∙◌, subst, arith, inl, inr, length-append}
 use Rattle.std.specs.List.{All}
 use Rattle.std.proofs.lemmas.Int.{ints}
 use Rattle.std.proofs.lemmas.List.Elements.{All-nil, All-push}
-use Rattle.mj_optimum.specs.Problem.{Problem, IsRegular}
+use Rattle.mj_optimum.specs.Problem.{IsRegular}
 use Rattle.mj_types.specs.declared.verdict.Verdict.{Verdict}
 use Rattle.mj_types.specs.declared.verdict.Verdict.TheVariants as verdict
-use Rattle.mj_check.specs.declared.rejection.Rejection.{Rejection}
 use Rattle.mj_check.specs.declared.header.Header.{Header}
 use Rattle.mj_check.specs.declared.numbers.Pair.{Pair}
 use Rattle.mj_check.specs.declared.rows.ActiveRow.{ActiveRow}
-use Rattle.mj_check.specs.Judging.{Then, Each}
-use Rattle.mj_check.specs.Lines.{DualTold, DualWithin, AreDualRows, IsNextDualRow}
-use Rattle.mj_check.specs.Numbers.{AreNumbersOf, IsJudgedBy, Printed, Promise, dual_at, no_dual, numbers_fault}
-use Rattle.mj_check.specs.Rows.{row_at}
-use Rattle.mj_check.specs.Verdict.{Place, IsDual, IsBlock, BlockHolds, HoldEach, BlocksHold, IsJudged, IsVerdict, VerdictHolds, KeepsPromise, tells_bounds}
-use Rattle.mj_check.proofs.FaultLaws.{HaveSameNumbers, fault-same}
+use Rattle.mj_check.specs.Judging.{Each}
+use Rattle.mj_check.specs.Lines.{DualTold, DualWithin, AreDualRows}
+use Rattle.mj_check.specs.Numbers.{IsJudgedBy, dual_at, no_dual, numbers_fault}
+use Rattle.mj_check.specs.Verdict.{Place, IsDual, IsBlock, BlockHolds, HoldEach, BlocksHold, IsJudged, IsVerdict, VerdictHolds, verdict_of, KeepsPromise, tells_bounds}
+use Rattle.mj_check.proofs.FaultLaws.{fault-same}
 use Rattle.mj_check.proofs.NumberLaws.{accepted_numbers_hold}
-
--- ---- two readings of the numbers that the same lines tell
-pub same-numbers : (nv : ℕ) (rows : List ActiveRow) (duals : List DualTold) (told : Pair) (p q : Problem) (place at : ℕ → ℕ) (x y : Printed) → AreNumbersOf nv rows duals told p place x → AreNumbersOf nv rows duals told q at y → HaveSameNumbers p q place at x y
-same-numbers nv rows duals told p q place at x y a b =
-    let l : (i : ℕ) → i < p.m → i < length rows = λ i h. omega (arith, a.m) in
-    record {
-      rows = record {
-        rows = a.m ∙ sym b.m;
-        dofs = a.nv ∙ sym b.nv;
-        numbers = λ i k h w. (a.each i (l i h)).g k (omega (arith, a.nv)) ∙ sym ((b.each i (l i h)).g k (omega (arith, a.nv)));
-        regularizers = λ i h. (a.each i (l i h)).r ∙ sym (b.each i (l i h)).r;
-        right_sides = λ i h. (a.each i (l i h)).b ∙ sym (b.each i (l i h)).b;
-        low_bounds = λ i h. (a.each i (l i h)).low ∙ sym (b.each i (l i h)).low;
-        high_bounds = λ i h. (a.each i (l i h)).high ∙ sym (b.each i (l i h)).high;
-      };
-      place = λ i h. (a.each i (l i h)).place ∙ sym (b.each i (l i h)).place;
-      f = λ i h. (a.each i (l i h)).f ∙ sym (b.each i (l i h)).f;
-      cost = a.cost ∙ sym b.cost;
-      bound = a.bound ∙ sym b.bound;
-      lo = λ i h. (a.each i (l i h)).lo ∙ sym (b.each i (l i h)).lo;
-      hi = λ i h. (a.each i (l i h)).hi ∙ sym (b.each i (l i h)).hi;
-    }
+use Rattle.mj_check.proofs.OneLaws.{judged-same, numbers-over, zip-same}
 
 -- ---- the rows of a dual that was found are within their limits
 abbrev Within : ℕ → ℕ → List DualTold → Type 0
@@ -63,7 +40,7 @@ duals-within bounds nv rows (suc m) at rest found (inl (mid, e, inl (row, inl (l
 -- ---- numbers that are accepted keep the promise, whatever problem and numbers they are told as
 pub judged-hold : (nv : ℕ) (rows : List ActiveRow) (duals : List DualTold) (told : Pair) (first cost_line : ℕ) → Within nv (length rows) duals → IsJudgedBy nv rows duals told first cost_line (Ok tt) → KeepsPromise nv rows duals told
 judged-hold nv rows duals told first cost_line within judged q at y b =
-    let s = same-numbers nv rows duals told judged.0 q judged.1 at judged.2 y judged.3 b in
+    let s = numbers-over nv rows duals duals told judged.0 q judged.1 at judged.2 y (zip-same nv duals) judged.3 b in
     let none : numbers_fault q at y first cost_line ≡ None = sym (fault-same judged.0 q judged.1 at judged.2 y s first cost_line) ∙ sym judged.4 in
     accepted_numbers_hold q at y first cost_line regular none
   where
@@ -114,3 +91,10 @@ accepted-holds text blocks (inr (few, (Err r, j, e))) = absurd cc
 pub verdict-holds : (text : List ℕ) (answer : Verdict) → IsVerdict text answer → VerdictHolds text answer
 verdict-holds text (verdict.Accepted blocks) is = accepted-holds text blocks is
 verdict-holds text (verdict.Rejected line why) is = tt
+
+-- ---- a text has one verdict
+pub verdict-one : (text : List ℕ) (a b : Verdict) → IsVerdict text a → IsVerdict text b → a ≡ b
+verdict-one text a b (inl (l, e)) (inl (m, f)) = e ∙ sym f
+verdict-one text a b (inl (l, e)) (inr (m, k)) = absurd (omega (arith, l, m))
+verdict-one text a b (inr (l, j)) (inl (m, f)) = absurd (omega (arith, l, m))
+verdict-one text a b (inr (l, (j, p, e))) (inr (m, (k, q, f))) = e ∙ ap verdict_of (judged-same text j k p q) ∙ sym f

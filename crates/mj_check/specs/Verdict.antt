@@ -45,7 +45,7 @@ IsBallAt at rest result =
     (BeginsBall rest × Then (Passes IsBall ball_line at rest) (λ behind found. found ≡ Ok (at + 1, behind)) result)
     ⊎ ((BeginsBall rest → ⊥) × (result ≡ Ok (at, rest)))
 
--- what is judged once a block's rows, of which there are so many, were read, from the line of its stop on; `first` is the line before its rows
+-- what is judged once a block's rows were read, from the line of its stop on; `first` is the line before its rows
 abbrev pub IsClosed : Bool → ℕ → ℕ → List ActiveRow → ℕ → List ℕ → Result Place Rejection → Type 0
 IsClosed bounds nv first rows at rest =
     Then (Passes (IsStop (length rows)) stop_text at rest) (λ stop.
@@ -61,17 +61,21 @@ IsBlock h k from =
     Then (AreRows (tells_bounds h) counts.0 (from.0 + 7) counts.1) (λ rows.
     IsClosed (tells_bounds h) h.nv (from.0 + 6) rows.0 (from.0 + 7 + counts.0.rows) rows.1)))
 
--- the blocks, from a line on: so many were accepted, and no further one begins, or there are as many as steps; or the next one begins
--- and is rejected
+-- the blocks, from a line on: so many were accepted, and no further one begins, or there are as many as steps;
+-- or the next one begins and is rejected
 abbrev pub AreBlocks : Header → Place → Result (ℕ × Place) Rejection → Type 0
 AreBlocks h from (Ok found) =
-    Each (λ k. IsBlock h (k + 1)) found.0 from (Ok found.1) × (found.0 ≤ h.steps) × (found.0 < h.steps → BeginsStep (found.0 + 1) found.1.1 → ⊥)
+    Each (λ k. IsBlock h (k + 1)) found.0 from (Ok found.1)
+    × (found.0 ≤ h.steps)
+    × (found.0 < h.steps → BeginsStep (found.0 + 1) found.1.1 → ⊥)
 AreBlocks h from (Err e) =
-    (k : ℕ) × (at : Place) × Each (λ j. IsBlock h (j + 1)) k from (Ok at) × (k < h.steps) × BeginsStep (k + 1) at.1 × IsBlock h (k + 1) at (Err e)
+    (k : ℕ) × (at : Place) × Each (λ j. IsBlock h (j + 1)) k from (Ok at) × (k < h.steps)
+    × BeginsStep (k + 1) at.1 × IsBlock h (k + 1) at (Err e)
 
 -- ---- the last line, and nothing behind it
 abbrev pub EndsText : ℕ → List ℕ → Result (Unit {0}) Rejection → Type 0
-EndsText line behind result = ((behind ≡ []) × (result ≡ Ok tt)) ⊎ ((behind ≡ [] → ⊥) × (result ≡ Err (at_line (line + 1) reason.Form)))
+EndsText line behind result =
+    ((behind ≡ []) × (result ≡ Ok tt)) ⊎ ((behind ≡ [] → ⊥) × (result ≡ Err (at_line (line + 1) reason.Form)))
 
 abbrev pub IsEnding : ℕ → ℕ → Place → Result (Unit {0}) Rejection → Type 0
 IsEnding count steps from = Then (Passes (IsEnd count steps) end_text from.0 from.1) (EndsText from.0)
@@ -97,12 +101,14 @@ verdict_of (Err e) = verdict.Rejected e.line e.reason
 abbrev pub IsVerdict : List ℕ → Verdict → Type 0
 IsVerdict text answer =
     ((text_limit < length text) × (answer ≡ verdict.Rejected 1 reason.TooLarge))
-    ⊎ ((length text ≤ text_limit) × ((judged : Result ℕ Rejection) × IsJudged text judged × (answer ≡ verdict_of judged)))
+    ⊎ ((length text ≤ text_limit)
+    × ((judged : Result ℕ Rejection) × IsJudged text judged × (answer ≡ verdict_of judged)))
 
 -- ---- what an accepted block promises
 -- its lines tell rows, their dual and a cost, and whatever problem and numbers these are, they keep the promise
 abbrev pub KeepsPromise : ℕ → List ActiveRow → List DualTold → Pair → Type 0
-KeepsPromise nv rows duals told = (p : Problem) (place : ℕ → ℕ) (x : Printed) → AreNumbersOf nv rows duals told p place x → Promise p x
+KeepsPromise nv rows duals told =
+    (p : Problem) (place : ℕ → ℕ) (x : Printed) → AreNumbersOf nv rows duals told p place x → Promise p x
 
 -- block k of a text stands between two places, and what its lines tell keeps the promise
 abbrev pub BlockHolds : Header → ℕ → Place → Place → Type 0
@@ -112,7 +118,8 @@ BlockHolds h k from to =
     × (rows : List ActiveRow × List ℕ) × AreRows (tells_bounds h) counts.0 (from.0 + 7) counts.1 (Ok rows)
     × (stop : List ℕ) × Passes (IsStop (length rows.0)) stop_text (from.0 + 7 + counts.0.rows) rows.1 (Ok stop)
     × (cost : Pair × List ℕ) × Line (IsCost (length rows.0)) cost_line (from.0 + 7 + counts.0.rows + 1) stop (Ok cost)
-    × (dual : List DualTold × List ℕ) × IsDual (tells_bounds h) h.nv rows.0 (from.0 + 7 + counts.0.rows + 2) cost.1 (Ok dual)
+    × (dual : List DualTold × List ℕ)
+    × IsDual (tells_bounds h) h.nv rows.0 (from.0 + 7 + counts.0.rows + 2) cost.1 (Ok dual)
     × IsBallAt (from.0 + 7 + counts.0.rows + 3 + length rows.0) dual.1 (Ok to)
     × KeepsPromise h.nv rows.0 dual.0 cost.0
 
@@ -123,7 +130,9 @@ HoldEach h (suc n) from to = (mid : Place) × HoldEach h n from mid × BlockHold
 
 -- the blocks of a text, of which there are so many
 abbrev pub BlocksHold : List ℕ → ℕ → Type 0
-BlocksHold text blocks = (header : Header × List ℕ) × Line IsHeader header_line 1 text (Ok header) × (end : Place) × HoldEach header.0 blocks (2, header.1) end
+BlocksHold text blocks =
+    (header : Header × List ℕ) × Line IsHeader header_line 1 text (Ok header)
+    × (end : Place) × HoldEach header.0 blocks (2, header.1) end
 
 -- what a verdict promises of its text
 abbrev pub VerdictHolds : List ℕ → Verdict → Type 0

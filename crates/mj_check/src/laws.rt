@@ -1,6 +1,7 @@
 // What an accepted dump promises.
 ghost use Rattle.std.specs.Prelude.{◌≡◌, ℕ, List, None};
 ghost use Rattle.mj_optimum.specs.Problem.{Problem, IsRegular};
+ghost use Rattle.mj_types.specs.declared.verdict.Verdict.{Verdict};
 ghost use Rattle.mj_types.specs.declared.verdict.Verdict.TheVariants as verdict;
 ghost use Rattle.mj_check.specs.Numbers as spec;
 ghost use Rattle.mj_check.specs.Verdict.{IsVerdict, BlocksHold};
@@ -17,4 +18,9 @@ pub fn accepted_numbers_hold()
 pub fn accepted_blocks_hold()
     ensures { (text : List ℕ) (blocks : ℕ) → IsVerdict text (verdict.Accepted blocks)
         → BlocksHold text blocks }
+{}
+
+/// A text has one verdict.
+pub fn verdict_is_one()
+    ensures { (text : List ℕ) (a b : Verdict) → IsVerdict text a → IsVerdict text b → a ≡ b }
 {}
