@@ -1,5 +1,5 @@
 -- Laws of how a command ends.
-use Rattle.std.proofs.Common.{◌≡◌, ◌≤◌, inl, inr, ℕ, Bool, true, false, List, Option, Some, None, Result, Ok, Err, option_map, cond, length, take, refl, sym, ap, ◌∙◌, subst}
+use Rattle.std.proofs.Common.{◌≡◌, ◌≤◌, inl, inr, ℕ, Bool, List, Option, Some, None, Result, Ok, Err, option_map, length, take, refl, sym, ap, ◌∙◌, subst}
 use Rattle.mj_io.specs.Faults.{Rose}
 use Rattle.mj_io.proofs.Faults.{Rose-after}
 use Rattle.mj_io.specs.Growth.{Grew}

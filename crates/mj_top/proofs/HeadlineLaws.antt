@@ -31,13 +31,15 @@ use Rattle.mj_run.proofs.Steps.{told-none}
 use Rattle.mj_valid.specs.Judging.{told, judged_bytes}
 use Rattle.mj_words.specs.declared.table.Command.{Command}
 use Rattle.mj_words.specs.declared.table.Command.TheVariants as command
+use Rattle.mj_types.specs.declared.verdict.Verdict.{Verdict}
+use Rattle.mj_types.specs.declared.verdict.Verdict.TheVariants as verdict
 use Rattle.mj_check.proofs.VerdictLaws.{verdict-holds}
-use Rattle.mj_words.specs.Words.{bad_place, command_of, model_of, step_count, tape_of, seed_of, link_count, dump_of}
-use Rattle.mj_top.specs.Outcome.{wants_of, Outcome, status_of, IsOutcome, IsWordsOutcome, IsCommandOutcome, IsRunOutcome, IsBenchOutcome, IsBatchOutcome, IsCheckOutcome, judged_as, dump_cap, IsTapesOutcomeOf, AreFirstTapes, RunsAll, RefusesNext, generated, model_cap, bench_of, benched, with_summed_tape, summed, batched, ran, with_tape, with_tape_file, with_tape_name, with_model, tape_room, tape_cap, tape_refused}
+use Rattle.mj_words.specs.Words.{bad_place, command_of, model_of, step_count, tape_of, seed_of, link_count}
+use Rattle.mj_top.specs.Outcome.{wants_of, Outcome, status_of, IsOutcome, IsWordsOutcome, IsCommandOutcome, IsRunOutcome, IsBenchOutcome, IsBatchOutcome, IsCheckOutcome, judged_as, dump_cap, IsTapesOutcomeOf, AreFirstTapes, RunsAll, RefusesNext, generated, model_cap, bench_of, with_summed_tape, summed, batched, ran, with_tape, with_tape_file, with_tape_name, with_model, tape_room, tape_cap}
 use Rattle.mj_top.specs.Ends.{Answers, EndsWhole, Completes}
 use Rattle.mj_top.proofs.Endings.{outcome-is}
 use Rattle.mj_top.proofs.Once.{outcomes-one}
-use Rattle.mj_top.specs.Headline.{IsDumpChecked, IsSound, IsEnd, IsModelUnder, IsTapeUnder, IsTraced, IsRunTraced, Achieves, IsHeadline, IsAccepted, EndsWell}
+use Rattle.mj_top.specs.Headline.{IsDumpChecked, IsSound, IsEnd, IsModelUnder, IsTapeUnder, IsRunTraced, Achieves, IsHeadline, IsAccepted, EndsWell}
 
 -- ---- options and results
 some-same : {A : Type 0} (x y : A) → Some x ≡ Some y → x ≡ y
@@ -238,12 +240,12 @@ module _ (words : List (List ℕ)) (held : List ℕ → Option (List ℕ)) where
         is_end-of (courses.end_of (course (wants_of words) m (controls_at (length m.motors) tape)) (step_count words)),
       )
 
-  has_end : (kind : Command) → IsAccepted kind words held → HasEnd kind
-  has_end command.Run given = run_end given
-  has_end command.Gen given = (generated (seed_of words) (link_count words), refl, tt)
+  has_end : (kind : Command) → IsAccepted kind words held → HasEnd kind ⊎ (kind ≡ command.Check)
+  has_end command.Run given = inl (run_end given)
+  has_end command.Gen given = inl (generated (seed_of words) (link_count words), refl, tt)
   has_end command.Bench given =
       let m = given.0 in
-      let tape = given.1 in (
+      let tape = given.1 in inl (
         summed (step_count words) m (Some tape),
         (Ok m, sym given.2.0, ap (with_summed_tape (step_count words) m) (sym given.2.1)),
         is_end-of (end_of m (driven_by m tape) (step_count words)),
@@ -251,21 +253,35 @@ module _ (words : List (List ℕ)) (held : List ℕ → Option (List ℕ)) where
   has_end command.Batch given =
       let m = given.0 in
       let tapes = given.1 in
-      let read = given.2.0 in (
+      let read = given.2.0 in inl (
         batched (step_count words) m tapes,
         (read.0, read.1, (Ok m, sym read.2, (tapes, given.2.2, inl (given.2.1, refl)))),
         is_end-of (batch_end m (step_count words) tapes),
       )
-  has_end command.Inverse given = run_end given
+  has_end command.Inverse given = inl (run_end given)
+  has_end command.Check given = inr refl
+
+  -- whatever is found of a dump, its check ends
+  judged_end : (found : Verdict) → IsEnd (judged_as found).status
+  judged_end (verdict.Accepted blocks) = tt
+  judged_end (verdict.Rejected line reason) = tt
+
+  outcome-ends : bad_place words ≡ None → HasEnd (command_of words) ⊎ (command_of words ≡ command.Check) → (o : Outcome) → IsOutcome words held o → IsEnd o.status
+  outcome-ends good (inl has) o meant =
+      let same : has.0 ≡ o = outcomes-one words held has.0 o (outcome-is words held (command_of words) has.0 good refl has.1) meant in
+      let R = λ (x : Outcome). IsEnd x.status in subst R same has.2
+  outcome-ends good (inr check) o meant =
+      let P = λ (p : Option ℕ). IsWordsOutcome held words p o in
+      let Q = λ (k : Command). IsCommandOutcome held k words o in
+      let R = λ (x : Outcome). IsEnd x.status in
+      let found : IsCheckOutcome held words o = subst Q check (subst P good meant) in
+      subst R (sym found.2.2) (judged_end found.2.0)
 
   pub ends-well : (tells : Bool) (answer : Status) (reads reads' : List ℕ → ℕ) (writes writes' : ℕ) → Completes words tells held answer reads reads' writes writes' → EndsWell words tells held answer reads reads' writes writes'
   ends-well tells answer reads reads' writes writes' complete good given quiet silent =
-      let has = has_end (command_of words) given in
-      let meant : IsOutcome words held has.0 = outcome-is words held (command_of words) has.0 good refl has.1 in
       elim (complete quiet silent) [
         | inl wanted ↦ inl wanted
         | inr is ↦
-            let same : has.0 ≡ is.0 = outcomes-one words held has.0 is.0 meant is.1 in
-            let Q = λ (s : Status). IsEnd s in
-            inr (subst Q (ap (λ (o : Outcome). o.status) same ∙ sym is.2) has.2)
+            let R = λ (s : Status). IsEnd s in
+            inr (subst R (sym is.2) (outcome-ends good (has_end (command_of words) given) is.0 is.1))
       ]

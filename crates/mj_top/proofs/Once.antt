@@ -1,11 +1,10 @@
 -- What is known of a model is known in one way; so a file's bytes are one model, and a command has one outcome.
-use Rattle.std.proofs.Common.{◌≡◌, inl, inr, ◌⊎◌, ℕ, zero, suc, ◌+◌, ◌-◌, ◌<◌, ◌≤◌, Bool, true, false, ◌&&◌, ◌==◌, cond, List, [], ◌∷◌, length, take, Option, Some, None, option_and_then, Result, Ok, Err, refl, sym, ap, ap₂, ◌∙◌, subst, arith}
+use Rattle.std.proofs.Common.{◌≡◌, inl, inr, ◌⊎◌, ℕ, zero, suc, ◌+◌, ◌-◌, ◌<◌, ◌≤◌, Bool, false, ◌&&◌, ◌==◌, cond, List, length, take, Option, Some, None, option_and_then, Result, Ok, Err, refl, sym, ap, ap₂, ◌∙◌, subst, arith}
 use Rattle.std.proofs.Props.{props}
 use Rattle.std.proofs.lemmas.Bool.{cases_Bool, cases_eq, cases_lt}
 use Rattle.std.proofs.lemmas.Bool.Decides.{nat_tests}
 use Rattle.std.proofs.lemmas.List.{ext_get_or}
 use mathlib.Core.HLevel.{is_prop→PathP}
-use Rattle.fx_whole.specs.Sums.{sum_ℕ_to}
 use Rattle.fx_whole.proofs.SumLaws.{sum_ℕ_to-ext}
 use Rattle.fx_whole.proofs.FirstLaws.{first_some}
 use Rattle.fx_whole.proofs.CountLaws.{count_to-below}
@@ -15,19 +14,15 @@ use Rattle.mj_types.specs.declared.model.Model.{Model}
 use Rattle.mj_types.specs.declared.status.ModelFault.{ModelFault}
 use Rattle.mj_types.specs.declared.tape.TapeFault.{TapeFault}
 use Rattle.mj_tape.specs.Judging.{TapeValues, tape_verdict}
-use Rattle.mj_gen.specs.Chain.{chain_text}
 use Rattle.mj_check.specs.Verdict.{IsVerdict}
 use Rattle.mj_run.specs.Batch.{no_tape, tape_at}
 use Rattle.mj_valid.specs.Judging.{accepted_of, told, judged_bytes}
 use Rattle.mj_words.specs.declared.table.Command.{Command}
 use Rattle.mj_words.specs.declared.table.Command.TheVariants as command
-use Rattle.mj_types.specs.declared.verdict.Verdict.{Verdict}
+use Rattle.mj_check.proofs.VerdictLaws.{verdict-one as dump_verdict-one}
 use Rattle.mj_words.specs.Words.{bad_place, command_of, model_of, step_count, tape_of, tape_count, nth_tape, seed_of, link_count, dump_of, value, value_count, is_tape, is_nth}
 use Rattle.mj_top.specs.Once.{AskAlike}
-use Rattle.mj_top.specs.Outcome.{wants_of, Outcome, IsOutcome, IsWordsOutcome, IsCommandOutcome, IsRunOutcome, IsFileOutcome, IsBenchOutcome, IsBatchOutcome, IsCheckOutcome, judged_as, dump_cap, IsTapesOutcome, IsTapesOutcomeOf, IsTapeJudged, AreFirstTapes, RunsAll, RefusesNext, with_model, bench_of, batched, kept_before, tape_room, tape_cap, model_cap, tape_refused}
-
-dump_verdict-one : (text : List ℕ) (a b : Verdict) → IsVerdict text a → IsVerdict text b → a ≡ b
-dump_verdict-one text a b p q = ?
+use Rattle.mj_top.specs.Outcome.{wants_of, Outcome, IsOutcome, IsWordsOutcome, IsCommandOutcome, IsRunOutcome, IsBenchOutcome, IsBatchOutcome, IsCheckOutcome, judged_as, dump_cap, IsTapesOutcome, IsTapesOutcomeOf, IsTapeJudged, AreFirstTapes, RunsAll, RefusesNext, with_model, bench_of, batched, kept_before, tape_room, tape_cap, model_cap, tape_refused}
 
 -- ---- a model is what it holds
 models-told : (a b : Model) → accepted_of a ≡ accepted_of b → a ≡ b

@@ -2,18 +2,15 @@
 use Rattle.std.proofs.Common.{◌≡◌, inl, inr, ℕ, ◌+◌, ◌-◌, ◌<◌, ◌≤◌, Bool, IsTrue, List, [], ◌∷◌, ◌++◌, length, take, Option, Some, None, option_and_then, Result, Ok, Err, refl, sym, ap, ap₂, ◌∙◌, subst, arith}
 use Rattle.std.proofs.lemmas.Bool.{cases_eq}
 use Rattle.std.proofs.lemmas.List.{get_or_push, get_or_append_left, length-append}
-use Rattle.fx_whole.specs.Sums.{sum_ℕ_to}
 use Rattle.fx_whole.proofs.JoinedLaws.{joined-none}
 use Rattle.fx_whole.proofs.SumLaws.{sum_ℕ_to-ext, sum_ℕ_to-more}
-use Rattle.mj_io.specs.Faults.{Rose}
 use Rattle.mj_types.specs.declared.model.Model.{Model}
 use Rattle.mj_types.specs.declared.status.ModelFault.{ModelFault}
 use Rattle.mj_types.specs.declared.status.Status.{Status}
-use Rattle.mj_types.specs.declared.status.Status.TheVariants as status
 use Rattle.mj_types.specs.declared.tape.TapeFault.{TapeFault}
 use Rattle.mj_tape.specs.Judging.{TapeValues, tape_verdict}
 use Rattle.mj_run.specs.declared.job.RunJob.{RunJob}
-use Rattle.mj_run.specs.Batch.{no_tape, tape_at, driven_by, report_text, AreJobsOf}
+use Rattle.mj_run.specs.Batch.{no_tape, tape_at, driven_by, report_text}
 use Rattle.mj_valid.specs.Judging.{told as told_of, judged_bytes}
 use Rattle.mj_words.specs.declared.table.Command.TheVariants as command
 use Rattle.mj_words.specs.Words.{bad_place, command_of, model_of, nth_tape, step_count}

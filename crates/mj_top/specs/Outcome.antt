@@ -1,5 +1,5 @@
 -- What a command answers and writes, for its words and for the bytes held under each name.
-use Rattle.std.specs.Prelude.{◌≡◌, ◌⊎◌, ℕ, ◌+◌, ◌-◌, ◌<◌, Bool, List, length, take, Option, Some, None, option_map, option_and_then, Result, Ok, Err}
+use Rattle.std.specs.Prelude.{◌≡◌, ◌⊎◌, ℕ, ◌+◌, ◌-◌, ◌<◌, List, length, take, Option, Some, None, option_map, option_and_then, Result, Ok, Err}
 use Rattle.fx_whole.specs.Sums.{sum_ℕ_to}
 use Rattle.mj_types.specs.declared.model.Model.{Model}
 use Rattle.mj_types.specs.declared.range.End.{End}

@@ -1,4 +1,4 @@
-use Rattle.std.proofs.Common.{◌≡◌, ◌∙◌, map, string_bytes, sym, subst, refl, IsTrue, Bool, List, ℕ, take, Some, Err, ap}
+use Rattle.std.proofs.Common.{◌≡◌, ◌∙◌, map, string_bytes, sym, subst, IsTrue, Bool, Err, ap}
 use Rattle.mj_io.specs.declared.cabinet.CabinetFault.TheVariants as cabinet
 use Rattle.mj_io.proofs.Faults.{Rose-after}
 use Rattle.mj_io.proofs.Growth.{Gives-held}

@@ -1,5 +1,4 @@
-use Rattle.std.proofs.Common.{◌≡◌, ◌-◌, inl, inr, ℕ, length, map, refl, Ok, Err, sym, ap, ◌∙◌}
-use Rattle.std.proofs.lemmas.List.{length-map}
+use Rattle.std.proofs.Common.{length}
 use Rattle.mj_io.proofs.Memory.{or_memory-ok}
 use Rattle.mj_run.specs.Batch.{tape_values}
 use Rattle.mj_tape.specs.Judging.{TapeValues, tape_verdict}

@@ -1,4 +1,4 @@
-use Rattle.std.proofs.Common.{◌≡◌, ◌≤◌, ◌<◌, ℕ, List, map, string_bytes, length, sym, subst, ap, ◌∙◌, arith}
+use Rattle.std.proofs.Common.{◌≡◌, ℕ, List, map, string_bytes, sym, subst, arith}
 use Rattle.mj_run.specs.declared.job.RunJob.{RunJob}
 use Rattle.mj_words.specs.Words.{tape_count}
 use Rattle.mj_top.specs.Outcome.{tape_room}

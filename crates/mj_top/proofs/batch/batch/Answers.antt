@@ -1,4 +1,4 @@
-use Rattle.std.proofs.Common.{◌∙◌, map, string_bytes, sym, ap, inr, IsTrue, Bool, subst, List, ℕ}
+use Rattle.std.proofs.Common.{◌∙◌, map, string_bytes, sym, ap, inr, IsTrue, Bool, subst}
 use Rattle.mj_io.proofs.Growth.{Gives-held}
 use Rattle.mj_valid.specs.Judging.{judged_bytes}
 use Rattle.mj_words.specs.Words.{nth_tape}

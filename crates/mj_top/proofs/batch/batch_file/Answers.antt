@@ -1,4 +1,4 @@
-use Rattle.std.proofs.Common.{◌≡◌, Ok, Err, map, string_bytes, refl, sym, ap, ℕ}
+use Rattle.std.proofs.Common.{◌≡◌, Ok, Err, map, string_bytes, refl, sym, ap}
 use Rattle.mj_io.proofs.Memory.{or_memory-ok, or_memory-err}
 use Rattle.mj_read.specs.Document.{no_memory}
 use Rattle.mj_valid.specs.Judging.{accepted_of, judged_bytes}

@@ -1,4 +1,4 @@
-use Rattle.std.proofs.Common.{◌≡◌, map, string_bytes, refl, inl, subst, List, sym}
+use Rattle.std.proofs.Common.{map, string_bytes, refl, inl, subst, List, sym}
 use Rattle.mj_run.specs.declared.job.RunJob.{RunJob}
 use Rattle.mj_run.specs.Batch.{batch_end, AreJobsOf}
 use Rattle.mj_words.specs.Words.{step_count}

@@ -1,6 +1,5 @@
-use Rattle.std.proofs.Common.{◌∙◌, map, string_bytes, sym, ap, subst, List, ℕ, absurd, ⊥}
+use Rattle.std.proofs.Common.{Err, ◌∙◌, map, string_bytes, sym, ap, subst, List, ℕ}
 use Rattle.mj_io.proofs.Growth.{Gives-held}
-use Rattle.mj_words.specs.declared.table.Command.{Command}
 use Rattle.mj_words.specs.declared.table.Command.TheVariants as command
 use Rattle.mj_top.specs.Outcome.{Outcome, IsDumpOutcome, IsOutcome, dump_cap}
 use Rattle.mj_top.proofs.Endings.{answers-within, answers-from_meant, leaves-from_meant, later_cause-from_meant, cause-from_later, check_read-rose, dump-later, outcome-is}
@@ -34,11 +33,11 @@ returns-in-Ok g c =
           (later_cause-from_meant g.S.Sink.holds g.S.Sink.faults before after (IsDumpOutcome text) answer ⊥ (dump-later text) c.check_dump.ensures);
     }
 
-pub returns-in-Failed : goal.returns-in-Failed
-returns-in-Failed g c =
+pub returns-in-Err-Failed-clause-cause : goal.returns-in-Err-Failed-clause-cause
+returns-in-Err-Failed-clause-cause g c =
     let words = map string_bytes c.args.words.now in
     let reads = g.C.Cabinet.faults c.args.cabinet.now in
     let reads_after = g.C.Cabinet.faults c.read.new.self in
     let tells = g.C.Cabinet.tells c.args.cabinet.now in
     let held = g.C.Cabinet.holds c.args.cabinet.now in
-    (c.requires.good, check_read-rose words tells held reads reads_after c.requires.check c.dump_of.result.now (sym c.dump_of.ensures) c.in-Failed.ensures)
+    (c.requires.good, check_read-rose words tells held reads reads_after c.requires.check c.dump_of.result.now (sym c.dump_of.ensures) (c.in-Err-Failed.ensures.cause (ap Err c.in-Err-Failed.field-0-is)))

@@ -1,4 +1,4 @@
-use Rattle.std.proofs.Common.{inl, inr, Bool, IsTrue, true, false, ◌≡◌, ◌∙◌, ℕ, map, string_bytes, sym, ap, None, subst, refl}
+use Rattle.std.proofs.Common.{inl, inr, IsTrue, true, false, ◌≡◌, ◌∙◌, ℕ, map, string_bytes, sym, ap, subst, refl}
 use Rattle.mj_words.specs.declared.table.Command.{Command}
 use Rattle.mj_words.specs.declared.table.Command.TheVariants as command
 use Rattle.mj_words.specs.Words.{seed_of, link_count}

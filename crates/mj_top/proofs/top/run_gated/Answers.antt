@@ -1,4 +1,4 @@
-use Rattle.std.proofs.Common.{◌≡◌, ℕ, map, string_bytes, sym, ap, ◌∙◌, Some, None, is_none, Bool, false, ◌&&◌, IsTrue, Option, refl, subst}
+use Rattle.std.proofs.Common.{◌≡◌, ℕ, map, string_bytes, sym, Some, None, is_none, false, ◌&&◌, IsTrue, Option, refl, subst}
 use Rattle.mj_run.specs.Run.{state_at}
 use Rattle.mj_words.specs.Words.{bad_place, command_of}
 use Rattle.mj_top.specs.Headline.{reads_files, read_files}
