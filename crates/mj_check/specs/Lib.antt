@@ -1,9 +1,0 @@
-pub mod Alike
-pub mod Judging
-pub mod Lines
-pub mod Numbers
-pub mod Places
-pub mod Rows
-pub mod Sources
-pub mod Stated
-pub mod Verdict
