@@ -1,3 +1,0 @@
-#> rejected 12 Form
-#= 9
-sed -e '12s/ bounds//' friction.dump

@@ -1,2 +1,0 @@
-#> accepted 150
-../../../crates/mj/out/mj run --model ../../../examples/chain.toml --steps 150 --dual yes --tape ../../../examples/chain.csv

@@ -1,2 +1,0 @@
-#> accepted 1
-../../../crates/mj/out/mj run --model ../idle-rows/wheel.toml --steps 1 --dual yes

@@ -1,2 +1,0 @@
-#> accepted 1
-../../../crates/mj/out/mj run --model ../limit/model.toml --steps 1 --dual yes

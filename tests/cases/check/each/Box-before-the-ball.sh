@@ -1,3 +1,0 @@
-#> rejected 9 Box
-#= 9
-sed -e '9s/4718592$/4718593/' -e '13a ball 1' ../limit/stdout

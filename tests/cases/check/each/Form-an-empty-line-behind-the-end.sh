@@ -1,4 +1,0 @@
-#> rejected 15 Form
-#= 9
-cat ../limit/stdout
-echo

@@ -1,3 +1,0 @@
-#> rejected 1 Form
-#= 9
-sed 's/$/\r/' ../limit/stdout

@@ -1,3 +1,0 @@
-#> rejected 14 Form
-#= 9
-head -c -1 ../limit/stdout

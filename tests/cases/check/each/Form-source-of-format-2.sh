@@ -1,3 +1,0 @@
-#> rejected 9 Form
-#= 9
-sed -e '9s/low 1/friction 1/' ../limit/stdout

@@ -1,3 +1,0 @@
-#> rejected 1 Form
-#= 9
-head -c 67108864 /dev/zero

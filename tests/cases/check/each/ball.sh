@@ -1,2 +1,0 @@
-#> accepted 1
-cat ../limit-with-ball/stdout

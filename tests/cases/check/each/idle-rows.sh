@@ -1,2 +1,0 @@
-#> accepted 1
-awk '{ print } /^cost/ { print "dual 0 1" }' ../idle-rows/stdout

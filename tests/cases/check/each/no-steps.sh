@@ -1,2 +1,0 @@
-#> accepted 0
-cat ../no-steps/stdout

@@ -1,2 +1,0 @@
-#> accepted 2
-./blocks 2
