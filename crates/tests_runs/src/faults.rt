@@ -1,14 +1,10 @@
 // Reads and writes that fail in turn: nothing is written, or a prefix of the whole text.
-use crate::input::{LIMITED, cabinet_of, sink_of, tell, words_of};
+use crate::input::{LIMITED, LIMITED_TRACE, cabinet_of, sink_of, tell, words_of};
 use mj_top::run_words;
 use std::test::Fail;
 
 const SLIDE_TRACE: &str =
     "trace 1 nq=1 nv=1 steps=3\nstep 1\nq -2147483648\nv -8589934592\na -34359738368\nresidual 0\nradius 0 0\nrows 0 idle 0\nstop none\ncost 0 0\nstep 2\nq -6442450944\nv -17179869184\na -34359738368\nresidual 0\nradius 0 0\nrows 0 idle 0\nstop none\ncost 0 0\nstep 3\nq -12884901888\nv -25769803776\na -34359738368\nresidual 0\nradius 0 0\nrows 0 idle 0\nstop none\ncost 0 0\nend done\n";
-
-// A limit's row, and its dual: the force is 4.5 N.
-const LIMITED_TRACE: &str =
-    "trace 1 nq=1 nv=1 steps=1\nstep 1\nq -3087007744\nv -3758096384\na -15032385536\nresidual 0\nradius 0 0\nrows 1 idle 0\nrow 1 low 1 4718592 4718592 4718592\nstop tolerance 2\ncost -12534142897764475283353632768 -12534142897764475283353632768\ndual 1 1\nd 1 281474976710656 -38654705664 16777216\nend done\n";
 
 // Forces of 1 + 2 and of 3 + 4 on 1 kg.
 const TWO_MOTORS_TRACE: &str =
@@ -36,7 +32,7 @@ const NO_STEPS: &str =
     "steps 0 of 0\nend done\nrows 0 idle 0\nsweeps 0 tolerance 0 limit 0 none 0\ngap 0\nresidual 0\nq 0.000000000\nv 0.000000000\n";
 
 // A command, how many files it reads, and, where all reads and writes go well, its status and its text.
-const COMMANDS: [(&str, u64, u8, &str); 12] = [
+const COMMANDS: [(&str, u64, u8, &str); 14] = [
     ("run --model slide --steps 3", 1, 0, SLIDE_TRACE),
     (
         "run --model limited --steps 1 --dual yes",
@@ -82,6 +78,8 @@ const COMMANDS: [(&str, u64, u8, &str); 12] = [
         0,
         TWO_MOTORS_INVERSE,
     ),
+    ("check --dual dump", 1, 0, "accepted 1\n"),
+    ("check --dual broken", 1, 9, "rejected 9 Box\n"),
     ("gen --links 1 --seed 7", 0, 0, CHAIN),
     ("bench --links 1 --seed 7 --steps 0", 0, 0, NO_STEPS),
 ];

@@ -15,6 +15,14 @@ pub const SLIDE: &str =
 pub const LIMITED: &str =
     "[option]\ntimestep = \"0.25\"\ngravity = [0, 0, -8]\n[[body]]\nname = \"a\"\ninertial = { mass = 1 }\n[[body.joint]]\nname = \"z\"\ntype = \"slide\"\nrange = [0, 4]\nsolreflimit = [-1, -1]\nsolimplimit = [\"0.5\", \"0.5\", 1, \"0.5\", 1]\n[keyframe]\nqpos = [\"-0.5\"]\n";
 
+/// The trace of its first step with its dual: the force of the limit's row is 4.5 N.
+pub const LIMITED_TRACE: &str =
+    "trace 1 nq=1 nv=1 steps=1\nstep 1\nq -3087007744\nv -3758096384\na -15032385536\nresidual 0\nradius 0 0\nrows 1 idle 0\nrow 1 low 1 4718592 4718592 4718592\nstop tolerance 2\ncost -12534142897764475283353632768 -12534142897764475283353632768\ndual 1 1\nd 1 281474976710656 -38654705664 16777216\nend done\n";
+
+/// The same, but for the upper end of the row's box.
+const BROKEN_TRACE: &str =
+    "trace 1 nq=1 nv=1 steps=1\nstep 1\nq -3087007744\nv -3758096384\na -15032385536\nresidual 0\nradius 0 0\nrows 1 idle 0\nrow 1 low 1 4718592 4718592 4718593\nstop tolerance 2\ncost -12534142897764475283353632768 -12534142897764475283353632768\ndual 1 1\nd 1 281474976710656 -38654705664 16777216\nend done\n";
+
 /// A body of 1 kg that rests.
 const REST: &str =
     "[option]\ntimestep = \"0.25\"\ngravity = [0, 0, 0]\n[[body]]\nname = \"a\"\ninertial = { mass = 1 }\n[[body.joint]]\nname = \"z\"\ntype = \"slide\"\n";
@@ -27,8 +35,8 @@ const DRIVEN: &str =
 const TWO_MOTORS: &str =
     "[option]\ntimestep = \"0.25\"\ngravity = [0, 0, 0]\n[[body]]\nname = \"a\"\ninertial = { mass = 1 }\n[[body.joint]]\nname = \"z\"\ntype = \"slide\"\n[[motor]]\njoint = \"z\"\n[[motor]]\njoint = \"z\"\n";
 
-// The files that every command here may read: models, and tapes.
-const FILES: [(&str, &str); 10] = [
+// The files that every command here may read: models, tapes, and dumps.
+const FILES: [(&str, &str); 12] = [
     ("slide", SLIDE),
     ("limited", LIMITED),
     ("rest", REST),
@@ -39,6 +47,8 @@ const FILES: [(&str, &str); 10] = [
     ("short", "1,2\n3,4\n"),
     ("bad", "1,2\n3,4\n5,x\n"),
     ("wide", "1,2,3\n"),
+    ("dump", LIMITED_TRACE),
+    ("broken", BROKEN_TRACE),
 ];
 
 /// The words of a line, as owned texts.
