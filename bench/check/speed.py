@@ -9,6 +9,7 @@ that dump's blocks, and with --mib 1 it is a first look. Each program runs five 
 says, and the least time of its own and of the system for it counts. It prints a table, and ends with 1 where the dump
 isn't accepted."""
 import argparse
+import multiprocessing
 import os
 import re
 import subprocess
@@ -49,6 +50,20 @@ def large(dump, size):
     return re.sub(rb"steps=\d+", b"steps=%d" % len(made), header) + b"".join(made) + b"end done\n", len(made)
 
 
+def written(wishes, folder, path):
+    """Writes the dump that is judged; its size in bytes and its number of blocks. It is called in a process
+    of its own, since a program's memory is counted from what its parent holds as it starts."""
+    if wishes.dump:
+        with open(wishes.dump, "rb") as file:
+            dump = file.read()
+    else:
+        dump = run_of_chain(wishes.mj, wishes.links, folder)
+    text, blocks = large(dump, wishes.mib << 20)
+    with open(path, "wb") as file:
+        file.write(text)
+    return len(text), blocks
+
+
 def measured(words):
     """The processor time of a program's run, its largest memory in kB, and what it printed."""
     with tempfile.TemporaryFile() as out:
@@ -73,20 +88,14 @@ def main():
     with tempfile.TemporaryDirectory() as folder:
         reader, path = os.path.join(folder, "reader"), os.path.join(folder, "dump")
         subprocess.run(["gcc", "-O2", "-o", reader, os.path.join(HERE, "reader.c")], check=True)
-        if wishes.dump:
-            with open(wishes.dump, "rb") as file:
-                dump = file.read()
-        else:
-            dump = run_of_chain(wishes.mj, wishes.links, folder)
-        text, blocks = large(dump, wishes.mib << 20)
-        with open(path, "wb") as file:
-            file.write(text)
+        with multiprocessing.Pool(1) as pool:
+            size, blocks = pool.apply(written, (wishes, folder, path))
         programs = {"mj check": [wishes.mj, "check", "--dual", path], "wc -l": ["wc", "-l", path], "C": [reader, path]}
         runs = {name: [] for name in programs}
         for _ in range(wishes.times):
             for name, words in programs.items():
                 runs[name].append(measured(words))
-        return told(runs, len(text), blocks)
+        return told(runs, size, blocks)
 
 
 def told(runs, size, blocks):
