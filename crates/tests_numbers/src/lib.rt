@@ -1,6 +1,5 @@
-//! The tests of numbers, lists, vectors and rotations: values worked apart from the
-//! program, and what no contract says. They stand in a crate of their own, since a crate with a test is
-//! proved twice.
+//! The tests of numbers and lists: values worked apart from the program, and what no contract says. They
+//! stand in a crate of their own, since a crate with a test is proved twice.
 #![tactic(auto)]
 
 #[cfg(test)]
@@ -11,12 +10,6 @@ mod nears;
 mod numbers;
 #[cfg(test)]
 mod shared;
-#[cfg(test)]
-mod sines;
-#[cfg(test)]
-mod turns;
-#[cfg(test)]
-mod vectors;
 #[cfg(test)]
 mod wholes;
 #[cfg(test)]
