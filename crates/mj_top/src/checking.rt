@@ -5,7 +5,7 @@ ghost use Rattle.mj_top.specs.Ends.{Answers, LeavesSink, HasCause, Ends, EndsMea
 ghost use Rattle.mj_top.specs.Outcome as spec;
 
 use crate::top::answered;
-use mj_check::check::check;
+use mj_check::check;
 use mj_io::{Cabinet, CabinetFault, NoMemory, Sink};
 use mj_trace::{accepted, rejected};
 use mj_types::{Status, Verdict};

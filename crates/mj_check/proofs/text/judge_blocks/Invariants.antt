@@ -2,7 +2,7 @@ use Rattle.std.proofs.Common.{◌≡◌, ◌+◌, ◌*◌, ◌≤◌, true, Ok}
 use Rattle.mj_check.specs.Judging.{Each}
 use Rattle.mj_check.specs.Places.{HasPlaces}
 use Rattle.mj_check.specs.Verdict.{IsBlock}
-use Rattle.mj_check.proofs.check.judge_blocks.Given as goal
+use Rattle.mj_check.proofs.text.judge_blocks.Given as goal
 
 abbrev pub invariant-loop-k : goal.invariant-loop-k
 invariant-loop-k l = record {

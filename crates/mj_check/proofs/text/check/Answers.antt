@@ -3,7 +3,7 @@ use Rattle.std.proofs.lemmas.Result.{IfOk-weaker}
 use Rattle.mj_check.specs.Verdict.{IsVerdict, VerdictHolds}
 use Rattle.mj_check.proofs.TextLaws.{judged-small}
 use Rattle.mj_check.proofs.VerdictLaws.{verdict-holds}
-use Rattle.mj_check.proofs.check.check.Goals as goal
+use Rattle.mj_check.proofs.text.check.Goals as goal
 
 pub returns : goal.returns
 returns c =

@@ -1,6 +1,6 @@
 use Rattle.std.proofs.Common.{refl, inl, inr}
 use Rattle.std.proofs.lemmas.Result.{err_from_is_err_and}
-use Rattle.mj_check.proofs.check.judge_rest.Goals as goal
+use Rattle.mj_check.proofs.text.judge_rest.Goals as goal
 
 pub returns-in_err-blocks-clause-rest : goal.returns-in_err-blocks-clause-rest
 returns-in_err-blocks-clause-rest c =

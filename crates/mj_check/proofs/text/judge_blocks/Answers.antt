@@ -3,7 +3,7 @@ use Rattle.std.proofs.lemmas.Result.{err_from_is_err_and}
 use Rattle.mj_check.specs.Judging.{Each}
 use Rattle.mj_check.specs.Verdict.{IsBlock}
 use Rattle.mj_check.proofs.JudgingLaws.{each-more}
-use Rattle.mj_check.proofs.check.judge_blocks.Goals as goal
+use Rattle.mj_check.proofs.text.judge_blocks.Goals as goal
 
 pub loop-k-init : goal.loop-k-init
 loop-k-init c = record { going = c.requires.going; room = c.requires.room; nv = c.requires.nv; small = omega arith; blocks = refl }
