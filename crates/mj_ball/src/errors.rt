@@ -12,6 +12,7 @@ ghost use Rattle.mj_ball.specs.Shifts as spec;
 use crate::entries::{product, within};
 use fx_num::{Fix, Over, Wide};
 use fx_whole::{difference, scale_up_wide, sum};
+use mj_factor::lists::height;
 use mj_factor::mass_of;
 use mj_types::{Factor, Mass, Model};
 
@@ -75,9 +76,11 @@ fn products(model: &Model, factor: &Factor, i: usize, j: usize) -> Result<Wide<1
         (forms.product (number_at factor.now.d)
         (spec.with_diagonal (entry (above_in model.now) factor.now.l)) i j r)) }
 {
+    let above_i = height(model, factor, i);
+    let above_j = height(model, factor, j);
     let mut total = Wide { raw: 0 };
     for r in i.max(j)..model.nv {
-        let term = product(model, factor, i, j, r)?;
+        let term = product(model, factor, i, above_i, j, above_j, r)?;
         total = plus(&total, &term);
     }
     Ok(total)
