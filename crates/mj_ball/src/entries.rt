@@ -130,7 +130,10 @@ pub(crate) fn product(
     ensures first { refusal_of result ≡ spec.too_large (forms.product (number_at factor.now.d)
         (spec.with_diagonal (entry (above_in model.now) factor.now.l)) i j r) }
 {
-    let left = lower_entry(model, factor, r, i, above_i);
     let right = lower_entry(model, factor, r, j, above_j);
+    if right.mid == 0 {
+        return Ok(Wide { raw: 0 });
+    }
+    let left = lower_entry(model, factor, r, i, above_i);
     times(&scaled(factor.d.entry(r), &left), &right)
 }

@@ -1,4 +1,4 @@
-use Rattle.std.proofs.Common.{ℕ, ◌+◌, ◌∙◌, ◌≡◌, ◌==◌, ◌&&◌, ap, ap₂, sym, arith, slice_index_or}
+use Rattle.std.proofs.Common.{ℕ, ◌+◌, ◌∙◌, ◌==◌, ◌&&◌, ap, ap₂, sym, arith, slice_index_or}
 use Rattle.std.proofs.lemmas.Bool.{lt-ltb, le-ltb}
 use Rattle.mj_tree.specs.Listing.{start}
 use Rattle.mj_types.specs.Forests.{above_in}
