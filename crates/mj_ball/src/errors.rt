@@ -1,7 +1,8 @@
 // What a factor leaves of the shifted mass matrix.
-ghost use Rattle.std.specs.Prelude.{◌≡◌, pos, length, ◌+◌, ◌*◌, ◌^◌, ◌<◌, ◌≤◌, ◌+ℤ◌, ◌-ℤ◌, ◌*ℤ◌, unsigned_abs, IfOk};
+ghost use Rattle.std.specs.Prelude.{◌≡◌, false, pos, length, ◌+◌, ◌*◌, ◌^◌, ◌<◌, ◌≤◌, ◌+ℤ◌, ◌-ℤ◌, ◌*ℤ◌, unsigned_abs, IfOk};
 ghost use Rattle.fx_whole.specs.First.{refusal_of, first_to};
 ghost use Rattle.fx_whole.specs.Sums.{sum_to};
+ghost use Rattle.mj_types.specs.FactorRooms.{FactorRoom};
 ghost use Rattle.mj_types.specs.Forests.{above_in};
 ghost use Rattle.mj_types.specs.Masses as masses;
 ghost use Rattle.mj_types.specs.Parts.{number_at};
@@ -12,7 +13,7 @@ ghost use Rattle.mj_ball.specs.Shifts as spec;
 use crate::entries::{product, within};
 use fx_num::{Fix, Over, Wide};
 use fx_whole::{difference, scale_up_wide, sum};
-use mj_factor::lists::height;
+use mj_factor::lists::{height, is_above};
 use mj_factor::mass_of;
 use mj_types::{Factor, Mass, Model};
 
@@ -63,8 +64,44 @@ fn left_of(a: &Wide<40>, b: &Wide<104>) -> Wide<104>
     }
 }
 
-// The sum of the products `D_r L_ri L_rj` over all rows: those of rows before `i` or `j` are 0.
+// Whether `j` is `i` or above it: where it isn't, no row is at or below both.
+fn meets(model: &Model, factor: &Factor, i: usize, j: usize) -> bool
+    requires room { FactorRoom model.now factor.now }
+    requires first { i < model.now.nv }
+    requires second { j ≤ i }
+    ensures { result ≡ false → (j < i) × (above_in model.now j i ≡ false) }
+{
+    j == i || is_above(model, factor, j, i)
+}
+
+// The sum of the products `D_r L_ri L_rj` over all rows: those of rows before `i` are 0.
 fn products(model: &Model, factor: &Factor, i: usize, j: usize) -> Result<Wide<104>, Over>
+    requires factor { IsFactor model.now factor.now }
+    requires first { i < model.now.nv }
+    requires second { j ≤ i }
+    ensures value { IfOk result (λ y. y.raw ≡ sum_to model.now.nv
+        (forms.product (number_at factor.now.d)
+        (spec.with_diagonal (entry (above_in model.now) factor.now.l)) i j)) }
+    ensures small { IfOk result (λ y. unsigned_abs y.raw ≤ 2 ^ 122) }
+    ensures first { refusal_of result ≡ first_to model.now.nv (λ r. spec.too_large
+        (forms.product (number_at factor.now.d)
+        (spec.with_diagonal (entry (above_in model.now) factor.now.l)) i j r)) }
+{
+    if !meets(model, factor, i, j) {
+        return Ok(Wide { raw: 0 });
+    }
+    let above_i = height(model, factor, i);
+    let above_j = height(model, factor, j);
+    let mut total = Wide { raw: 0 };
+    for r in i..model.nv {
+        let term = product(model, factor, i, above_i, j, above_j, r)?;
+        total = plus(&total, &term);
+    }
+    Ok(total)
+}
+
+// The same for any two dofs, in any order.
+fn products_of(model: &Model, factor: &Factor, i: usize, j: usize) -> Result<Wide<104>, Over>
     requires factor { IsFactor model.now factor.now }
     requires first { i < model.now.nv }
     requires second { j < model.now.nv }
@@ -76,14 +113,11 @@ fn products(model: &Model, factor: &Factor, i: usize, j: usize) -> Result<Wide<1
         (forms.product (number_at factor.now.d)
         (spec.with_diagonal (entry (above_in model.now) factor.now.l)) i j r)) }
 {
-    let above_i = height(model, factor, i);
-    let above_j = height(model, factor, j);
-    let mut total = Wide { raw: 0 };
-    for r in i.max(j)..model.nv {
-        let term = product(model, factor, i, above_i, j, above_j, r)?;
-        total = plus(&total, &term);
+    if j <= i {
+        products(model, factor, i, j)
+    } else {
+        products(model, factor, j, i)
     }
-    Ok(total)
 }
 
 // The error of row `i` and column `j`.
@@ -108,7 +142,7 @@ fn error(
         (shifted_mass shift.now.mid model.now mass.now) (number_at factor.now.d)
         (spec.with_diagonal (entry (above_in model.now) factor.now.l)) i j }
 {
-    let total = products(model, factor, i, j)?;
+    let total = products_of(model, factor, i, j)?;
     let whole = matrix_entry(mass, model.nv, shift, i, j);
     let left = within(&left_of(&whole, &total))?;
     Ok(left)
