@@ -45,3 +45,17 @@ module _ (above : ℕ → ℕ → Bool) {F : ℕ} (xs : List (Number (Unit {0}) 
       by_left : (b : Bool) → above i r ≡ b → r ≢ i → product d (with_diagonal (entry above xs)) i j r ≡ pos 0
       by_left false t s = zero_left (d r *ℤ with_diagonal (entry above xs) r i) (with_diagonal (entry above xs) r j) (zero_right (d r) (with_diagonal (entry above xs) r i) (no_entry r i s t))
       by_left true t s = by_right (above j r) refl t
+
+  -- a row that has an entry in column i has one in each column that i has one in
+  pub meets_too : (n : ℕ) → IsForest n above → (i j r : ℕ) → r < n → with_diagonal (entry above xs) r i ≢ pos 0 → (j ≢ i → above j i ≡ true) → j ≢ r → above j r ≡ true
+  meets_too n forest i j r p some met h = elim (cases_eq r i) [
+    | inl s ↦ ap (λ (x : ℕ). above j x) s ∙ met (λ t. h (t ∙ sym s))
+    | inr s ↦ by_left (above i r) refl s
+  ]
+    where
+      by_left : (b : Bool) → above i r ≡ b → r ≢ i → above j r ≡ true
+      by_left false t s = absurd (some (no_entry r i s t))
+      by_left true t s = elim (cases_eq j i) [
+        | inl e ↦ ap (λ (x : ℕ). above x r) e ∙ t
+        | inr e ↦ forest.through j i r p (met e) t
+      ]

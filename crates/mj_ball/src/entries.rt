@@ -1,5 +1,5 @@
 // Entries of a factor, and their products within a limit.
-ghost use Rattle.std.specs.Prelude.{◌≡◌, ◌+◌, ◌^◌, ◌<◌, ◌≤◌, ◌*ℤ◌, unsigned_abs, IfOk};
+ghost use Rattle.std.specs.Prelude.{◌≡◌, ◌≢◌, true, ◌+◌, ◌^◌, ◌<◌, ◌≤◌, ◌*ℤ◌, unsigned_abs, IfOk};
 ghost use Rattle.fx_whole.specs.First.{refusal_of};
 ghost use Rattle.mj_tree.specs.Listing.{height, start};
 ghost use Rattle.mj_types.specs.FactorRooms.{FactorRoom};
@@ -42,14 +42,8 @@ fn stored(model: &Model, factor: &Factor, r: usize, i: usize, above: usize) -> F
     }
 }
 
-/// Row `r` and column `i` of L, with its diagonal. `above` dofs are above `i`.
-pub(crate) fn lower_entry(
-    model: &Model,
-    factor: &Factor,
-    r: usize,
-    i: usize,
-    above: usize,
-) -> Fix<32>
+// Row `r` and column `i` of L, with its diagonal. `above` dofs are above `i`.
+fn lower_entry(model: &Model, factor: &Factor, r: usize, i: usize, above: usize) -> Fix<32>
     requires factor { IsFactor model.now factor.now }
     requires row { r < model.now.nv }
     requires column { i < model.now.nv }
@@ -65,6 +59,40 @@ pub(crate) fn lower_entry(
         }
     } else {
         stored(model, factor, r, i, above)
+    }
+}
+
+// The stored entry of row `r` and column `i`, where `i` is above `r`: no look at the names is needed.
+fn listed_entry(model: &Model, factor: &Factor, r: usize, i: usize, above: usize) -> Fix<32>
+    requires factor { IsFactor model.now factor.now }
+    requires row { r < model.now.nv }
+    requires column { i < model.now.nv }
+    requires height { above ≡ height (above_in model.now) i }
+    requires meets { above_in model.now i r ≡ true }
+    ensures value { result.mid ≡ entry (above_in model.now) factor.now.l r i }
+    ensures small { unsigned_abs result.mid ≤ 2 ^ 48 }
+{
+    *factor.l.entry(begin(model, factor, r) + above)
+}
+
+// `lower_entry` where `i` is `r` or above it.
+fn known_entry(model: &Model, factor: &Factor, r: usize, i: usize, above: usize) -> Fix<32>
+    requires factor { IsFactor model.now factor.now }
+    requires row { r < model.now.nv }
+    requires column { i < model.now.nv }
+    requires height { above ≡ height (above_in model.now) i }
+    requires meets { r ≢ i → above_in model.now i r ≡ true }
+    ensures value { result.mid
+        ≡ spec.with_diagonal (entry (above_in model.now) factor.now.l) r i }
+    ensures small { unsigned_abs result.mid ≤ 2 ^ 48 }
+{
+    if r == i {
+        Number {
+            mid: 1 << 32,
+            rad: (),
+        }
+    } else {
+        listed_entry(model, factor, r, i, above)
     }
 }
 
@@ -108,7 +136,7 @@ fn times(a: &Wide<72>, b: &Fix<32>) -> Result<Wide<104>, Over>
     }
 }
 
-/// `D_r L_ri L_rj`. `above_i` and `above_j` dofs are above `i` and `j`.
+/// `D_r L_ri L_rj`, where `j` is `i` or above it. `above_i` and `above_j` dofs are above `i` and `j`.
 pub(crate) fn product(
     model: &Model,
     factor: &Factor,
@@ -124,16 +152,17 @@ pub(crate) fn product(
     requires first_height { above_i ≡ height (above_in model.now) i }
     requires second { j < model.now.nv }
     requires second_height { above_j ≡ height (above_in model.now) j }
+    requires meets { j ≢ i → above_in model.now j i ≡ true }
     ensures value { IfOk result (λ y. y.raw ≡ forms.product (number_at factor.now.d)
         (spec.with_diagonal (entry (above_in model.now) factor.now.l)) i j r) }
     ensures small { IfOk result (λ y. unsigned_abs y.raw ≤ 2 ^ 116) }
     ensures first { refusal_of result ≡ spec.too_large (forms.product (number_at factor.now.d)
         (spec.with_diagonal (entry (above_in model.now) factor.now.l)) i j r) }
 {
-    let right = lower_entry(model, factor, r, j, above_j);
-    if right.mid == 0 {
+    let left = lower_entry(model, factor, r, i, above_i);
+    if left.mid == 0 {
         return Ok(Wide { raw: 0 });
     }
-    let left = lower_entry(model, factor, r, i, above_i);
+    let right = known_entry(model, factor, r, j, above_j);
     times(&scaled(factor.d.entry(r), &left), &right)
 }

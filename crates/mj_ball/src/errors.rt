@@ -1,5 +1,5 @@
 // What a factor leaves of the shifted mass matrix.
-ghost use Rattle.std.specs.Prelude.{◌≡◌, false, pos, length, ◌+◌, ◌*◌, ◌^◌, ◌<◌, ◌≤◌, ◌+ℤ◌, ◌-ℤ◌, ◌*ℤ◌, unsigned_abs, IfOk};
+ghost use Rattle.std.specs.Prelude.{◌≡◌, ◌≢◌, false, true, pos, length, ◌+◌, ◌*◌, ◌^◌, ◌<◌, ◌≤◌, ◌+ℤ◌, ◌-ℤ◌, ◌*ℤ◌, unsigned_abs, IfOk};
 ghost use Rattle.fx_whole.specs.First.{refusal_of, first_to};
 ghost use Rattle.fx_whole.specs.Sums.{sum_to};
 ghost use Rattle.mj_types.specs.FactorRooms.{FactorRoom};
@@ -69,7 +69,8 @@ fn meets(model: &Model, factor: &Factor, i: usize, j: usize) -> bool
     requires room { FactorRoom model.now factor.now }
     requires first { i < model.now.nv }
     requires second { j ≤ i }
-    ensures { result ≡ false → (j < i) × (above_in model.now j i ≡ false) }
+    ensures apart { result ≡ false → (j < i) × (above_in model.now j i ≡ false) }
+    ensures meets { result ≡ true → j ≢ i → above_in model.now j i ≡ true }
 {
     j == i || is_above(model, factor, j, i)
 }
